@@ -1515,6 +1515,17 @@ def scored():
         for code in (own, other):
             segment = bytes([5, code]) + W.listed([bytes([0xd0, own, 0x0b])] * 3)
             case('three nulls of %s in a segment of 0x%02x' % (null, code), W.build(elems=[segment]), 'all', told='')
+    heading('Functions in an element segment of a type by index, one by one')
+    three = dict(types=['func ->', 'func -> i32', 'func -> i64'], funcs=[(at, '', 'unreachable') for at in range(3)])
+    for type, listed in [('?1', '1 1 1'), ('?1', '0 0 0'), ('?1', '2 2 2'), ('?1', '1 1 0'), ('?1', '1 1 2'), ('?1', '1 0 1'), ('?0', '0 0 1'), ('?2', '2 2 1'),
+                         ('funcref', '0 1 2'), ('!1', '1 1 1'), ('!1', '1 1 2'), ('?1', '1 1 9'), ('funcref', '0 1 9'), ('funcref', '9 9 9'), ('anyref', '0 0 0')]:
+        exprs = ['ref.func %s' % it for it in listed.split()]
+        case('functions %s in a segment of %s' % (listed, type), W.build(elems=[dict(mode='passive', type=type, exprs=exprs)], **three), told='')
+    for title, expr, wanted in [('ref.eq', 'x:d300', 'refused'), ('ref.is_null', 'x:d1', 'refused'), ('f32.const', 'f32.const 0', 'refused')]:
+        case('three times %s in a segment' % title, W.build(elems=[dict(mode='passive', type='funcref', exprs=[expr] * 3)], **three), wanted=wanted)
+    for title, expr in [('functions', 'ref.func 0'), ('nulls', 'ref.null func')]:
+        case('three %s in a segment without reference_types' % title, W.build(elems=[dict(mode='passive', type='funcref', exprs=[expr] * 3)], **three),
+             'default-reference_types', wanted='refused', own=True)
     heading('References to functions, whose types are exact')
     parts = dict(types=['func ->', 'func -> i32'], elems=[dict(mode='declared', funcs=[0])], features='all', ty=0, told='')
     exact = 'x:02646200; ref.func 0; x:0b; drop'
