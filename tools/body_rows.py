@@ -1009,6 +1009,8 @@ def scored():
          locals='!func !func !func')
     case('the last of 1,025 locals', '', raw=b'\1' + W.unsigned(1025) + b'\x7f\x20' + W.unsigned(1024) + b'\x1a\x0b')
     case('a local behind 1,025', '', raw=b'\1' + W.unsigned(1025) + b'\x7f\x20' + W.unsigned(1025) + b'\x1a\x0b', told='')
+    case('the index of a local in three bytes', '', raw=bytes.fromhex('01017f208080001a0b'))
+    case('the index of a local in five bytes', '', raw=bytes.fromhex('01017f2080808080001a0b'))
     case('a local that is set again in a block is set behind it', 'ref.func 1; local.set 0; block; ref.func 1; local.set 0; end; local.get 0; drop',
          locals='!func')
     subject('references')
@@ -1016,6 +1018,8 @@ def scored():
     case('ref.eq of what may be any above eq', 'ref.null eq; ref.null any; ref.eq; drop', told='')
     case('br_on_cast to an outer label of another type', 'block =?array; block =?any; ref.null any; br_on_cast 1 ?any ?i31; end; drop; unreachable; end; drop', told='')
     case('br_on_cast_fail to an outer label of another type', 'block =?i31; block =?any; ref.null any; br_on_cast_fail 1 ?any ?i31; end; drop; unreachable; end; drop')
+    for op in ('br_on_non_null 0', 'br_on_cast 0 ?any ?i31; drop', 'br_on_cast_fail 0 ?any ?i31; drop', 'br_on_null 0; drop'):
+        case('%s to a block of an empty list' % op.split(';')[0], 'block @0; ref.null any; %s; end' % op, told='')
     for title, before in [('alone', ''), ('behind eq', 'ref.null eq; '), ('behind shared eq', 'x:d0656d; ')]:
         case('unreached ref.eq %s' % title, 'unreachable; %sref.eq; drop' % before)
     for title, before in [('alone', 'any.convert_extern'), ('below eq', 'any.convert_extern; ref.null eq'),
@@ -1039,7 +1043,8 @@ def scored():
     for name, op in [('f32x4.splat', 'fd13'), ('f32x4.extract_lane', 'fd1f00'), ('f32x4.replace_lane', 'fd2000'), ('f64x2.splat', 'fd14'),
                      ('f64x2.extract_lane', 'fd2100'), ('f64x2.replace_lane', 'fd2200')]:
         case('%s without floats' % name, '', raw=bytes.fromhex('0000%s1a0b' % op), features='all-floats', wanted='refused 2 %s; missing floats' % FLOATS)
-    for name, op in [('f32x4.add', 'fde401'), ('i32x4.splat', 'fd11'), ('i32x4.extract_lane', 'fd1b00')]:
+    for name, op in [('f32x4.add', 'fde401'), ('i32x4.splat', 'fd11'), ('i64x2.splat', 'fd12'), ('i32x4.extract_lane', 'fd1b00'),
+                     ('i64x2.extract_lane', 'fd1d00')]:
         case('%s without floats' % name, '', raw=bytes.fromhex('0000%s1a0b' % op), features='all-floats', wanted='ok')
     subject('memories')
     case('an offset of 33 bits with the largest alignment', 'i32.const 0; i32.load 2:4294967296; drop')

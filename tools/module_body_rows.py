@@ -1506,6 +1506,7 @@ def scored():
     described = ['func ->', [b'\x4d\2\x5f\0', b'\x4c\1\x5f\0']]
     for title, op in [('struct.new_desc', 'fb2001'), ('struct.new_default_desc', 'fb2101')]:
         case('%s of a structure without fields' % title, W.build(types=described, ntypes=3, funcs=[(0, '', 'x:d06202%s; drop' % op)]), 'all')
+        case('%s gives a reference to its type' % title, W.build(types=described, ntypes=3, funcs=[(0, '', 'block =!1; x:d06202%s; end; drop' % op)]), 'all')
         case('%s gives a reference' % title, W.build(types=described, ntypes=3, funcs=[(0, '', 'x:d06202%s' % op)]), 'all', plain=True)
     heading('Three nulls in an element segment, of its type or of another')
     for null, types in [('cont', '68 75'), ('exn', '69 74'), ('array', '6a 6e'), ('struct', '6b 70'), ('i31', '6c 6d'), ('eq', '6d 69'), ('any', '6e 6a'),
@@ -1523,10 +1524,19 @@ def scored():
         case('functions %s in a segment of %s' % (listed, type), W.build(elems=[dict(mode='passive', type=type, exprs=exprs)], **three), told='')
     for title, expr, wanted in [('ref.eq', 'x:d300', 'refused'), ('ref.is_null', 'x:d1', 'refused'), ('f32.const', 'f32.const 0', 'refused')]:
         case('three times %s in a segment' % title, W.build(elems=[dict(mode='passive', type='funcref', exprs=[expr] * 3)], **three), wanted=wanted)
+    case('three times a global that is not there in a segment', W.build(elems=[dict(mode='passive', type='funcref', exprs=['x:2370'] * 3)]))
+    case('three nulls of func in a segment of extern', W.build(elems=[b'\5\x6f' + W.listed([b'\xd0\x70\x0b'] * 3)]), told='')
     for title, expr in [('functions', 'ref.func 0'), ('nulls', 'ref.null func')]:
         case('three %s in a segment without reference_types' % title, W.build(elems=[dict(mode='passive', type='funcref', exprs=[expr] * 3)], **three),
              'default-reference_types', wanted='refused', own=True)
+    heading('A memory of 64 bits that is the first')
+    for title, ops in [('a load by an address of 32 bits', 'i32.const 0; i32.load; drop'), ('a load by an address of 64 bits', 'i64.const 0; i32.load; drop'),
+                       ('a store by an address of 32 bits', 'i32.const 0; i32.const 0; i32.store'),
+                       ('a store by an address of 64 bits', 'i64.const 0; i32.const 0; i32.store')]:
+        asked(title, ops, mems=['i64 1'])
     heading('References to functions, whose types are exact')
+    for title, field in [('an exact field', b'\x5f\1\x64\x62\0\0'), ('a field that is not exact', b'\x5f\1\x64\0\0')]:
+        asked('%s as exact' % title, 'x:02646200; ref.null 1; struct.get 1 0; x:0b; drop', ty=2, types=['struct', field, 'func ->'], features='all', told='')
     parts = dict(types=['func ->', 'func -> i32'], elems=[dict(mode='declared', funcs=[0])], features='all', ty=0, told='')
     exact = 'x:02646200; ref.func 0; x:0b; drop'
     asked('a defined function is of its exact type', exact, **parts)
