@@ -47,7 +47,7 @@ def closing(text, at):
 
 
 def body_of(text, at):
-    """Where the body of the function starts and ends whose name ends here, behind its clauses, or None where it has none; and where its signature ends."""
+    """Where the body of the function starts and ends whose name ends here, behind its clauses, and where its signature ends; None where it has none."""
     signature = None
     while True:
         depth, brace = 0, None
@@ -156,8 +156,8 @@ def regions_of(file, function):
         found |= answers_of(blank, function)
     found = {trimmed(blank, *it) for it in found}
     # a part in parentheses is one of its condition, and what stands behind `if let` is none alone
-    inner = {it for it in found if blank[it[0] - 1] == "(" and not re.match(r"[\w>!]", blank[it[0] - 2]) and any(a < it[0] and it[1] < z for a, z in found)}
-    inner |= {it for it in found if blank[it[0] - 2 : it[0]] == "!(" and any(a < it[0] and it[1] < z for a, z in found)}
+    nested = [it for it in found if any(a < it[0] and it[1] < z for a, z in found)]
+    inner = {it for it in nested if blank[it[0] - 1] == "(" and not re.match(r"[\w>]", blank[it[0] - 2])}
     return sorted(it for it in found - inner if not re.search(r"\b(?:if|while) let [^=;{}]*= *\Z", blank[function.body : it[0]]))
 
 
@@ -338,7 +338,8 @@ def arms_of(file, at, end):
             depth += (it[0] in "([{") - (it[0] in ")]}")
         values = [one.strip() for one in blank[at:arrow].split("|")]
         is_plain = all(re.fullmatch(r"0x[0-9a-f_]+|\d+|(?:\w+::)+[A-Z]\w*", one) for one in values)
-        arms.append((values if is_plain else None, file.code(arrow + 2, stop).rstrip(", "), at + len(blank[at:arrow]) - len(blank[at:arrow].lstrip())))
+        start = at + len(blank[at:arrow]) - len(blank[at:arrow].lstrip())
+        arms.append((values if is_plain else None, file.code(arrow + 2, stop).rstrip(", "), start))
         at = stop
     return arms
 
@@ -411,7 +412,7 @@ def add_names(file, function, start, end, subject, arms):
                 number = file.add(at, function.name, "entry", f"`{one}` is `{other.rsplit('::')[-1]}`")
                 answer = f"if hook::m({number}) {{ {other} }} else {{ {answer} }}"
             rows.append(f"{one} => {answer},")
-    rows += [f"it => it," ] if any(it[0] is None for it in arms) else []
+    rows += ["it => it,"] if any(it[0] is None for it in arms) else []
     file.appended += f" fn {call}(it: {name}) -> {name} {{ match it {{ {' '.join(rows)} }} }}"
     file.insert(start, end, f"{call}(*" if is_lent else f"{call}(", ")", key)
 
@@ -429,10 +430,8 @@ def add_bodies(file, functions, edits):
             body = file.text[function.body + 1 : function.end]
             for _, old, new in places:
                 body = body.replace(old, new) if body.count(old) == 1 else body
-            blank = blanked(body)
             code = File("", body, 0).code(0, len(body))
             file.insert(function.body + 1, function.end, f" if hook::m({number}) {{ {code} }} else {{", "}", file.mutants[-1].key)
-            assert len(blank) == len(body)
 
 
 def apply_changes(file):

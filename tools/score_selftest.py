@@ -48,7 +48,8 @@ NO_CHANGE = ("the_same_again", [("        Kind::Huge => 16,", "        // the la
 WANTED = {
     "entry: `0x01` is read as `0x02`", "entry: `0x03` is read as `0x01`", "entry: `Kind::Small` is `Large`", "entry: `Kind::Huge` is `Small`",
     "true: `!is_within(first, last)` is true", "negated: `!is_within(first, last)` is negated", "false: `stacks.len() > 0` is false",
-    "off by one: `last < MOST` by `<=`", "off by one: `first <= last` by `<`", "off by one: `first < 7` by `<=`", "off by one: `stacks.len() > 0` by `>=`",
+    "off by one: `last < MOST` by `<=`", "off by one: `first <= last` by `<`", "off by one: `first < 7` by `<=`",
+    "off by one: `stacks.len() > 0` by `>=`",
     "conjunct: `first <= last && (last < MOST || first == 0)` without `first <= last`",
     "alternative: `first <= last && (last < MOST || first == 0)` without `first == 0`",
     "statement: without `stacks.pop()?;`", "statement: without `stacks.last = Some(first);`", "check: without `hold(first < 7, \"a { in a string\")`",
@@ -74,7 +75,8 @@ def check(report):
     """Reports each check by its name, with what is wrong."""
     mutants, idle, none = idle_mutants("toy/src/lib.rt", TOY, EDITS)
     found = {f"{it.kind}: {it.change}" for it in mutants}
-    report("the mutants of a text", "; ".join(sorted(WANTED - found)) and f"not made: {'; '.join(sorted(WANTED - found))}; made: {'; '.join(sorted(found))}")
+    lacking = "; ".join(sorted(WANTED - found))
+    report("the mutants of a text", lacking and f"not made: {lacking}; made: {'; '.join(sorted(found))}")
     report("each changes the text", "; ".join(it.change for it in idle))
     report("numbers are used once", "" if len({it.number for it in mutants}) == len(mutants) else "two mutants have one number")
     start = unwrapped(plain(TOY))
