@@ -1525,6 +1525,10 @@ def scored():
     for title, expr in [('ref.eq', 'ref.eq'), ('ref.is_null', 'ref.is_null'), ('f32.const', 'f32.const 0')]:
         case('three times %s in a segment' % title, W.build(elems=[dict(mode='passive', type='funcref', exprs=[expr] * 3)], **three), told='')
     case('three times a global that is not there in a segment', W.build(elems=[dict(mode='passive', type='funcref', exprs=['x:2370'] * 3)]))
+    case('three times ref.eq and a zero in a segment', W.build(elems=[dict(mode='passive', type='funcref', exprs=['x:d300'] * 3)], **three), told='')
+    for title, type, null in [('a type by index in a segment of extern', 'externref', 'ref.null 0'), ('a type by index in a segment of func', 'funcref', 'ref.null 0'),
+                              ('a type by index in a segment of another', '?1', 'ref.null 0')]:
+        case('three nulls of %s' % title, W.build(elems=[dict(mode='passive', type=type, exprs=[null] * 3)], **three), told='')
     case('three nulls of func in a segment of extern', W.build(elems=[b'\5\x6f' + W.listed([b'\xd0\x70\x0b'] * 3)]), told='')
     for title, expr in [('functions', 'ref.func 0'), ('nulls', 'ref.null func')]:
         case('three %s in a segment without reference_types' % title, W.build(elems=[dict(mode='passive', type='funcref', exprs=[expr] * 3)], **three),
