@@ -47,7 +47,7 @@ def closing(text, at):
 
 
 def body_of(text, at):
-    """Where the body of the function starts and ends whose name ends here, behind its clauses, and where its signature ends; None where it has none."""
+    """Where the body of the function starts and ends whose name ends here, behind its clauses, and where its signature ends; None without a body."""
     signature = None
     while True:
         depth, brace = 0, None
