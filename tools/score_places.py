@@ -290,7 +290,7 @@ def add_statements(file, function):
             number = file.add(it.end(), function.name, "statement", f"without `{short(file.text[it.end() : end + 1])}`")
             if number is not None:
                 file.insert(it.end(), end + 1, f"if !hook::m({number}) {{ ", " }", file.mutants[-1].key)
-        elif end == function.end and re.match(r"(io::)?Result<\(\)", function.result()) and not re.match(r"(Ok|Err)\(", text):
+        elif end == function.end and re.match(r"(io::)?Result<\(\)(?!, AllocFailed)", function.result()) and not re.match(r"(Ok|Err)\(", text):
             start, end = trimmed(blank, it.end(), end)
             number = file.add(start, function.name, "check", f"without `{short(file.text[start:end])}`")
             if number is not None:
@@ -372,10 +372,10 @@ def add_tables(file, function):
 def add_numbers(file, function, start, end, arms):
     """The same for a match on numbers: a number is read as another one."""
     subject = file.blank[start:end]
-    kind = re.search(rf"\b{re.escape(subject)}: (u8|u32)\b", function.signature)
-    kind = kind[1] if kind else "u8" if re.search(r"(\b|_)(opcode|byte|u8\(\)\?)\Z", subject) else "u32" if subject == "code" else None
+    typed = re.search(rf"\b{re.escape(subject)}: (\w+)", function.signature)
+    kind = typed[1] if typed else "u8" if re.search(r"(\b|_)(opcode|byte|u8\(\)\?)\Z", subject) else "u32" if subject == "code" else None
     values = [int(one.replace("_", ""), 0) for it in arms for one in it[0] or ()]
-    if not kind or not values or max(values) > 4095:
+    if kind not in NUMBERS or not values or max(values) > 4095:
         return
     key = f"{file.path}:{line_of(file.text, start)}: table"
     if key in file.dropped:
