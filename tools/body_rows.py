@@ -975,6 +975,92 @@ HEAD = '''# Each line is a row; blank lines and lines that begin with `#` are pa
 '''
 
 
+def scored():
+    """What no other row told apart: found by tools/score."""
+    subject('control')
+    case('a branch in an else without what its label takes', 'i32.const 0; if =i32; i32.const 1; else; br 0; end; drop')
+    case('an if without else of a type that takes nothing and gives nothing', 'i32.const 0; if @0; end')
+    case('an if without else of a type that gives a number', 'i32.const 0; if @9; i32.const 1; end; drop', told='')
+    case('an if without else of a type that takes a number', 'i32.const 1; i32.const 0; if @8; drop; end', told='')
+    case('nop keeps an operand', 'i32.const 0; nop; drop')
+    case('a branch to a loop that gives a number', 'loop =i32; br 0; end; drop')
+    case('select of an integer of 64 bits below a float', 'i64.const 0; f32.const 0; i32.const 0; select; drop')
+    case('select of a float below an integer of 64 bits', 'f32.const 0; i64.const 0; i32.const 0; select; drop')
+    for op in ('br 1', 'i32.const 0; br_if 1'):
+        case('%s to an outer label of a supertype' % op, 'block =?any; block =?func; ref.null none; %s; unreachable; end; drop; unreachable; end; drop' % op)
+        case('%s to an outer label of no supertype' % op, 'block =?func; block =?any; ref.null none; %s; unreachable; end; drop; unreachable; end; drop' % op)
+    case('an else in a loop', 'loop; else; end', wanted='refused 3 ' + ELSE)
+    case('an else in a try_table', 'try_table; else; end', wanted='refused 4 ' + ELSE)
+    case('an else in an else', 'i32.const 0; if; else; else; end', wanted='refused 6 ' + ELSE)
+    case('catch_all_ref to a block of an empty list', 'block @0; try_table [catch_all_ref:0]; end; end')
+    case('catch_ref to a block of an empty list', 'block @0; try_table [catch_ref:0:0]; end; end')
+    case('a table that takes nothing, with an unknown label', 'i32.const 0; br_table 9 0')
+    case('a label that is cut off', '', raw=b'\0\x0c')
+    case('a label behind a condition that is cut off', '', raw=b'\0\x41\0\x0d')
+    case('the function of a call that is cut off', '', raw=b'\0\x10')
+    subject('variables')
+    case('the index of a local that is cut off', '', raw=b'\0\x20')
+    case('the index of a local that is set and cut off', '', raw=b'\0\x41\0\x21')
+    case('the index of a global that is cut off', '', raw=b'\0\x23')
+    case('global.get behind an operand of the type', 'i32.const 0; global.get 1; drop; drop')
+    case('a local that is set before one of its type', 'ref.func 1; local.set 0; local.get 0; drop', locals='!func !func')
+    case('a local that is not set behind one of its type', 'ref.func 1; local.set 0; local.get 1; drop', locals='!func !func')
+    case('a local that is set after a later one', 'ref.func 1; local.set 2; ref.func 1; local.set 0; local.get 2; drop; local.get 0; drop',
+         locals='!func !func !func')
+    case('the last of 1,025 locals', '', raw=b'\1' + W.unsigned(1025) + b'\x7f\x20' + W.unsigned(1024) + b'\x1a\x0b')
+    case('a local behind 1,025', '', raw=b'\1' + W.unsigned(1025) + b'\x7f\x20' + W.unsigned(1025) + b'\x1a\x0b', told='')
+    case('the index of a local in three bytes', '', raw=bytes.fromhex('01017f208080001a0b'))
+    case('the index of a local in five bytes', '', raw=bytes.fromhex('01017f2080808080001a0b'))
+    case('a local that is set again in a block is set behind it', 'ref.func 1; local.set 0; block; ref.func 1; local.set 0; end; local.get 0; drop',
+         locals='!func')
+    subject('references')
+    case('ref.eq of what may be any below eq', 'ref.null any; ref.null eq; ref.eq; drop', told='')
+    case('ref.eq of what may be any above eq', 'ref.null eq; ref.null any; ref.eq; drop', told='')
+    case('br_on_cast to an outer label of another type', 'block =?array; block =?any; ref.null any; br_on_cast 1 ?any ?i31; end; drop; unreachable; end; drop', told='')
+    case('br_on_cast_fail to an outer label of another type', 'block =?i31; block =?any; ref.null any; br_on_cast_fail 1 ?any ?i31; end; drop; unreachable; end; drop')
+    for op in ('br_on_non_null 0', 'br_on_cast 0 ?any ?i31; drop', 'br_on_cast_fail 0 ?any ?i31; drop', 'br_on_null 0; drop'):
+        case('%s to a block of an empty list' % op.split(';')[0], 'block @0; ref.null any; %s; end' % op, told='')
+    for title, before in [('alone', ''), ('behind eq', 'ref.null eq; '), ('behind shared eq', 'x:d0656d; ')]:
+        case('unreached ref.eq %s' % title, 'unreachable; %sref.eq; drop' % before)
+    for title, before in [('alone', 'any.convert_extern'), ('below eq', 'any.convert_extern; ref.null eq'),
+                          ('above eq', 'ref.null eq; unreachable; any.convert_extern')]:
+        case('unreached ref.eq of what any.convert_extern gives %s' % title, 'unreachable; %s; ref.eq; drop' % before, told='')
+    case('ref.func of its exact type', '', raw=bytes.fromhex('0002646201d2010b1a0b'))
+    case('ref.func of a function for a structure', 'block =!struct; ref.func 1; end; drop', told='')
+    case('ref.func of a function for one of another type', 'block =!10; ref.func 1; end; drop', told='')
+    case('ref.func of a function for one of its type', 'block =!1; ref.func 1; end; drop')
+    case('ref.null of a type index with gc alone', 'ref.null 3; drop', features='all-function_references', wanted='ok')
+    case('ref.null of a type index with function references alone', 'ref.null 3; drop', features='all-gc', wanted='ok')
+    exact = 'custom descriptors required for exact reference types; missing custom_descriptors'
+    case('ref.null of an exact type', '', raw=bytes.fromhex('00d062031a0b'))
+    case('ref.null of an exact type without custom_descriptors', '', raw=bytes.fromhex('00d062031a0b'), features='all-custom_descriptors', wanted='refused 1 ' + exact)
+    case('ref.test of an exact type without custom_descriptors', '', raw=bytes.fromhex('0000fb1462031a0b'), features='all-custom_descriptors',
+         wanted='refused 2 ' + exact)
+    for name, op in [('a type index', '03'), ('an exact type', '6203')]:
+        case('ref.test of %s without reference_types' % name, '', raw=bytes.fromhex('0000fb14%s1a0b' % op), features='all-reference_types',
+             wanted='refused 2 ' + value_type('reference_types'))
+    subject('features')
+    for name, op in [('f32x4.splat', 'fd13'), ('f32x4.extract_lane', 'fd1f00'), ('f32x4.replace_lane', 'fd2000'), ('f64x2.splat', 'fd14'),
+                     ('f64x2.extract_lane', 'fd2100'), ('f64x2.replace_lane', 'fd2200')]:
+        case('%s without floats' % name, '', raw=bytes.fromhex('0000%s1a0b' % op), features='all-floats', wanted='refused 2 %s; missing floats' % FLOATS)
+    for name, op in [('f32x4.add', 'fde401'), ('i32x4.splat', 'fd11'), ('i64x2.splat', 'fd12'), ('i32x4.extract_lane', 'fd1b00'),
+                     ('i64x2.extract_lane', 'fd1d00')]:
+        case('%s without floats' % name, '', raw=bytes.fromhex('0000%s1a0b' % op), features='all-floats', wanted='ok')
+    subject('memories')
+    case('an offset of 33 bits with the largest alignment', 'i32.const 0; i32.load 2:4294967296; drop')
+    case('v128.load of 64 bits with an offset of 33 bits', '', raw=bytes.fromhex('004200fd00400180808080101a0b'))
+    subject('tables')
+    case('elem.drop of an unknown segment 7', 'elem.drop 7')
+    subject('aggregates')
+    case('array.new_elem of numbers, with an unknown segment', 'i32.const 0; i32.const 0; array.new_elem 4 9; drop')
+    subject('legacy_exceptions')
+    for where, head in [('a try', [TRY_I32]), ('a catch', [TRY_I32, I32, '0700']), ('a catch_all', [TRY_I32, I32, '19'])]:
+        case('a branch in legacy %s without what its label takes' % where, '', raw=b'\0' + bytes.fromhex(''.join(head)) + bytes.fromhex('0c000b1a0b'), features=LEGACY)
+    case('an else in a catch_all', '', raw=bytes.fromhex('00064019050b0b'), features=LEGACY, wanted='refused 4 ' + ELSE)
+    for where, head in [('a loop', '0340'), ('an if', '41000440'), ('an else', '4100044005')]:
+        case('rethrow to %s in a catch_all' % where, '', raw=bytes.fromhex('00064019%s09000b0b0b' % head), features=LEGACY)
+
+
 def wanted_of(answers, type_index, body, told):
     b, start = module(type_index, body)
     it = answers.of(b)
@@ -987,7 +1073,7 @@ def wanted_of(answers, type_index, body, told):
 
 
 def main():
-    for part in [numbers, memories, tables, variables, control, references, abstract_casts, continuation_branches, unreached, aggregates, proposals, legacy]:
+    for part in [numbers, memories, tables, variables, control, references, abstract_casts, continuation_branches, unreached, aggregates, proposals, legacy, scored]:
         part()
     answers = Answers()
     files, lacking = {}, []

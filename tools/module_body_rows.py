@@ -1475,6 +1475,82 @@ CHANGED = {0x6a: 0x7c, 0x6b: 0x45, 0x7c: 0x6a, 0x41: 0x42, 0x42: 0x41, 0x20: 0x2
            0x1b: 0x1a, 0xa7: 0xac, 0xac: 0xa7, 0xad: 0xa7, 0x04: 0x02, 0x03: 0x04}
 
 
+def scored():
+    """What no other row told apart: found by tools/score."""
+    heading('Types that are alike in part')
+    asked('catch_ref to a block that takes a number behind its tag', 'block @2; try_table _ [catch_ref:0:0]; end; unreachable; end; unreachable',
+          types=['func ->', 'func i32 ->', 'func -> i32 i64'], tags=[1], told='')
+    asked('array.copy of bytes into halves', 'ref.null 1; i32.const 0; ref.null 0; i32.const 0; i32.const 0; array.copy 1 0',
+          types=['array mut:i8', 'array mut:i16'], told='')
+    lists = ['func ->', 'func -> i32 i64', 'func i32 i64 -> i32 i64']
+    for title, ops in [('br_if', 'block @1; i32.const 0; i64.const 0; block; i32.const 0; br_if 1; end; br 0; end; drop; drop'),
+                       ('a call', 'i32.const 0; i64.const 0; block; call 1; end; drop; drop'),
+                       ('a call, the first alone', 'i32.const 0; block; i64.const 0; call 1; drop; end; drop'),
+                       ('a sum, the first alone', 'i32.const 0; block; i32.const 1; i32.add; end; drop'),
+                       ('a loop', 'i32.const 0; i64.const 0; block; loop @2; end; end; drop; drop')]:
+        case('operands of %s that stand outside of their block' % title, W.build(types=lists, funcs=[(0, '', ops), (2, '', 'unreachable')]), 'all', plain=True)
+    packed = ['array mut:i8', 'array mut:i16', 'array mut:i32']
+    for title, to, of in [('bytes into bytes', 0, 0), ('halves into halves', 1, 1), ('halves into bytes', 0, 1), ('bytes into words', 2, 0), ('words into bytes', 0, 2)]:
+        asked('array.copy of %s' % title, 'ref.null %d; i32.const 0; ref.null %d; i32.const 0; i32.const 0; array.copy %d %d' % (to, of, to, of),
+              types=packed, told='')
+    shared = b'\x65\x60\0\0'
+    for title, ops in [('any below eq', 'x:d0656e; x:d0656d; ref.eq; drop'), ('any above eq', 'x:d0656d; x:d0656e; ref.eq; drop'),
+                       ('eq alone', 'x:d0656d; x:d0656d; ref.eq; drop')]:
+        asked('ref.eq in a shared function, of shared %s' % title, ops, ty=0, types=[shared], features='all', told='')
+    structure = b'\x65\x5f\0'
+    asked('ref.test of any shared for a shared structure', 'x:d0656e; ref.test 1; drop', ty=0, types=['func ->', structure], features='all')
+    asked('ref.test of any shared for a structure', 'x:d0656e; ref.test 1; drop', ty=0, types=['func ->', 'struct'], features='all', told='')
+    asked('ref.test of any for a shared structure', 'ref.null any; ref.test 1; drop', ty=0, types=['func ->', structure], features='all', told='')
+    for title, ops in [('twice', 'ref.null 1; ref.null 1'), ('and of shared eq', 'ref.null 1; x:d0656d'), ('and of eq', 'ref.null 1; ref.null eq')]:
+        asked('ref.eq of a shared structure %s' % title, ops + '; ref.eq; drop', ty=0, types=['func ->', structure], features='all', told=None if 'shared' in title else '')
+    described = ['func ->', [b'\x4d\2\x5f\0', b'\x4c\1\x5f\0']]
+    for title, op in [('struct.new_desc', 'fb2001'), ('struct.new_default_desc', 'fb2101')]:
+        case('%s of a structure without fields' % title, W.build(types=described, ntypes=3, funcs=[(0, '', 'x:d06202%s; drop' % op)]), 'all')
+        case('%s gives a reference to its type' % title, W.build(types=described, ntypes=3, funcs=[(0, '', 'block =!1; x:d06202%s; end; drop' % op)]), 'all')
+        case('%s gives a reference' % title, W.build(types=described, ntypes=3, funcs=[(0, '', 'x:d06202%s' % op)]), 'all', plain=True)
+    heading('Three nulls in an element segment, of its type or of another')
+    for null, types in [('cont', '68 75'), ('exn', '69 74'), ('array', '6a 6e'), ('struct', '6b 70'), ('i31', '6c 6d'), ('eq', '6d 69'), ('any', '6e 6a'),
+                        ('extern', '6f 72'), ('func', '70 73'), ('none', '71 74'), ('noextern', '72 6f'), ('nofunc', '73 70'), ('noexn', '74 69'),
+                        ('nocont', '75 68')]:
+        own, other = bytes.fromhex(types)
+        for code in (own, other):
+            segment = bytes([5, code]) + W.listed([bytes([0xd0, own, 0x0b])] * 3)
+            case('three nulls of %s in a segment of 0x%02x' % (null, code), W.build(elems=[segment]), 'all', told='')
+    heading('Functions in an element segment of a type by index, one by one')
+    three = dict(types=['func ->', 'func -> i32', 'func -> i64'], funcs=[(at, '', 'unreachable') for at in range(3)])
+    for type, listed in [('?1', '1 1 1'), ('?1', '0 0 0'), ('?1', '2 2 2'), ('?1', '1 1 0'), ('?1', '1 1 2'), ('?1', '1 0 1'), ('?0', '0 0 1'), ('?2', '2 2 1'),
+                         ('funcref', '0 1 2'), ('!1', '1 1 1'), ('!1', '1 1 2'), ('?1', '1 1 9'), ('funcref', '0 1 9'), ('funcref', '9 9 9'), ('anyref', '0 0 0')]:
+        exprs = ['ref.func %s' % it for it in listed.split()]
+        case('functions %s in a segment of %s' % (listed, type), W.build(elems=[dict(mode='passive', type=type, exprs=exprs)], **three), told='')
+    for title, expr in [('ref.eq', 'ref.eq'), ('ref.is_null', 'ref.is_null'), ('f32.const', 'f32.const 0')]:
+        case('three times %s in a segment' % title, W.build(elems=[dict(mode='passive', type='funcref', exprs=[expr] * 3)], **three), told='')
+    case('three times a global that is not there in a segment', W.build(elems=[dict(mode='passive', type='funcref', exprs=['x:2370'] * 3)]))
+    case('three times ref.eq and a zero in a segment', W.build(elems=[dict(mode='passive', type='funcref', exprs=['x:d300'] * 3)], **three), told='')
+    for title, type, null in [('a type by index in a segment of extern', 'externref', 'ref.null 0'), ('a type by index in a segment of func', 'funcref', 'ref.null 0'),
+                              ('a type by index in a segment of another', '?1', 'ref.null 0')]:
+        case('three nulls of %s' % title, W.build(elems=[dict(mode='passive', type=type, exprs=[null] * 3)], **three), told='')
+    case('three nulls of func in a segment of extern', W.build(elems=[b'\5\x6f' + W.listed([b'\xd0\x70\x0b'] * 3)]), told='')
+    for title, expr in [('functions', 'ref.func 0'), ('nulls', 'ref.null func')]:
+        case('three %s in a segment without reference_types' % title, W.build(elems=[dict(mode='passive', type='funcref', exprs=[expr] * 3)], **three),
+             'default-reference_types', wanted='refused 32 reference types support is not enabled; missing reference_types', own=True)
+    heading('A memory of 64 bits that is the first')
+    for title, ops in [('a load by an address of 32 bits', 'i32.const 0; i32.load; drop'), ('a load by an address of 64 bits', 'i64.const 0; i32.load; drop'),
+                       ('a store by an address of 32 bits', 'i32.const 0; i32.const 0; i32.store'),
+                       ('a store by an address of 64 bits', 'i64.const 0; i32.const 0; i32.store')]:
+        asked(title, ops, mems=['i64 1'])
+    heading('References to functions, whose types are exact')
+    for title, field in [('an exact field', b'\x5f\1\x64\x62\0\0'), ('a field that is not exact', b'\x5f\1\x64\0\0')]:
+        asked('%s as exact' % title, 'x:02646200; ref.null 1; struct.get 1 0; x:0b; drop', ty=2, types=['struct', field, 'func ->'], features='all', told='')
+    parts = dict(types=['func ->', 'func -> i32'], elems=[dict(mode='declared', funcs=[0])], features='all', ty=0, told='')
+    exact = 'x:02646200; ref.func 0; x:0b; drop'
+    asked('a defined function is of its exact type', exact, **parts)
+    # the custom descriptors proposal: an import without `exact` may be of a subtype
+    asked('an imported function is not of its exact type', exact, imports=[('func', 0)], wanted='refused 49 type mismatch: expected (ref (exact (id 0))), found (ref (id 0)); ' + IN_BODY, own=True, **parts)
+    asked('a function that is imported as exact is of its exact type', exact, imports=[b'\1m\1f\x20\0'], wanted='ok', **parts)
+    for heap, op in [('a structure', 'block =!struct'), ('any', 'block =!any'), ('a shared function', 'x:02646570'), ('a function of another type', 'block =!1')]:
+        asked('a defined function for %s' % heap, op + '; ref.func 0; x:0b; drop', **parts)
+
+
 def changed(b, most):
     """The module with one operator exchanged for another: so many of them, in even steps."""
     places = []
@@ -1503,7 +1579,7 @@ def programs():
         row('the program %s with another operator, in turn' % name, *[Part(other, plain=True) for other in changed(b, 10 if len(b) < 800 else 6)])
 
 
-PARTS = [by_bytes, on_one_validator, limits, numbers, accesses, frames, unreached, joins, named, calls, identities, catches, casts, gated, beyond, descriptors, continuations, edges,
+PARTS = [by_bytes, on_one_validator, limits, numbers, accesses, frames, unreached, joins, named, calls, identities, catches, casts, gated, beyond, descriptors, continuations, edges, scored,
          bodies, programs]
 
 if __name__ == '__main__':
