@@ -2,7 +2,7 @@
 
 ghost use Rattle.std.specs.Prelude.{◌≡◌, ◌≤◌, ◌⊎◌, IfOk, length, Some, ⊤};
 ghost use Rattle.std.specs.List.{All};
-ghost use Rattle.wasm_validate_files.specs.Files.{IsRead, HasRoomForAll};
+ghost use Rattle.wasm_check_reports.specs.WasmValidateFiles.Files.{IsRead, HasRoomForAll};
 ghost use Rattle.wasm_check_files.specs.Checked.{StatusTells, WereChecked, room_for};
 ghost use Rattle.wasm_check_files.specs.Statuses.{IsWorst, status_at, status_of, status_of_error};
 
@@ -13,8 +13,8 @@ use std::io::{self, Write};
 use std::rt::Files;
 use std::slice;
 use wasm_check_reports::{Form, Settings, Summary, write_report, write_summary, write_unread};
-use wasm_validate_files::validator::Error;
-use wasm_validate_files::{
+use wasm_check_reports::files::validator::Error;
+use wasm_check_reports::files::{
     Answer, Input, Printable, STATUS_OK, STATUS_REFUSED, STATUS_TROUBLE, answer_files,
 };
 

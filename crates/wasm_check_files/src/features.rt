@@ -4,7 +4,7 @@ ghost use Rattle.std.specs.Prelude.{◌≡◌, IfOk, IfErr, Some, map, option_ma
 ghost use Rattle.wasm_check_files.specs.Selecting.{changed, selected, wasm3, bits_named, is_named, flag_letter, IsUnknown};
 
 use bitflags::Flag;
-pub use wasm_validate_files::validator::{Flags, WasmFeatures};
+pub use wasm_check_reports::files::validator::{Flags, WasmFeatures};
 
 /// What the Core Specification 3.0 has, as far as features decide it: the default features with vectors
 /// and without threads.

@@ -16,6 +16,6 @@ pub use progress::Progress;
 pub use read::{NO_TEXT, read_known_size};
 pub use suggestions::nearest_feature;
 pub use wasm_check_reports::{Form, Settings, Summary};
-pub use wasm_validate_files::{
+pub use wasm_check_reports::files::{
     Input, Printable, STATUS_OK, STATUS_REFUSED, STATUS_TROUBLE, Word, read_words,
 };

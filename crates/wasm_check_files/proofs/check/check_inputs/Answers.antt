@@ -1,7 +1,7 @@
 use Rattle.std.proofs.Common.{◌≡◌, ◌≤◌, length, subst, arith}
 use Rattle.std.proofs.lemmas.List.{length-map}
-use Rattle.wasm_validate_files.specs.Files.{bytes_held}
-use Rattle.wasm_validate_files.specs.Answers.{AreAnswers}
+use Rattle.wasm_check_reports.specs.WasmValidateFiles.Files.{bytes_held}
+use Rattle.wasm_check_reports.specs.WasmValidateFiles.Answers.{AreAnswers}
 use Rattle.wasm_check_files.specs.Statuses.{IsWorst}
 use Rattle.wasm_check_files.proofs.Told.{status_tells}
 use Rattle.wasm_check_files.proofs.check.check_inputs.Goals as goal
