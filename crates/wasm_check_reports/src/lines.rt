@@ -138,7 +138,9 @@ fn write_error(
 fn write_place(text: &mut String, bytes: &[u8], offset: u64) -> Result<(), AllocError> {
     match find_place(bytes, offset) {
         Place::Header => text.push_str("  in the header")?,
-        Place::Between => text.push_str("  in the id or the size of a section, or in one that is cut off")?,
+        Place::Between => text.push_str(
+            "  in the id or the size of a section, or in one that is cut off",
+        )?,
         Place::In(section) => {
             let name = section_name(section.id);
             let at = if offset < section.end {
