@@ -25,7 +25,7 @@ pub struct Summary {
 impl Summary {
     /// Counts a file that was read, with its answer if it was checked.
     pub fn count(&mut self, answer: Option<&Answer<Global>>)
-        ensures { self.new ≡ with_answer self.old (option_map (λ a. a.now) answer) }
+        ensures { self.new ≡ with_answer self.old (option_map (λ a. a.now) answer.entry) }
     {
         match answer {
             Some(Ok(_)) => add_one(&mut self.valid),
