@@ -12,11 +12,11 @@ use std::alloc::{AllocError, Global};
 use std::io::{self, Write};
 use std::rt::Files;
 use std::slice;
-use wasm_check_reports::{Form, Settings, Summary, write_report, write_summary, write_unread};
 use wasm_check_reports::files::validator::Error;
 use wasm_check_reports::files::{
     Answer, Input, Printable, STATUS_OK, STATUS_REFUSED, STATUS_TROUBLE, answer_files,
 };
+use wasm_check_reports::{Form, Settings, Summary, write_report, write_summary, write_unread};
 
 /// Checks the files with these names, in order, and prints of each what is asked for. A file that
 /// can't be read is told on `err` with the reason. `progress` is shown how many were checked by a

@@ -15,7 +15,7 @@ pub use folders::{Found, find_files};
 pub use progress::Progress;
 pub use read::{NO_TEXT, read_known_size};
 pub use suggestions::nearest_feature;
-pub use wasm_check_reports::{Form, Settings, Summary};
 pub use wasm_check_reports::files::{
     Input, Printable, STATUS_OK, STATUS_REFUSED, STATUS_TROUBLE, Word, read_words,
 };
+pub use wasm_check_reports::{Form, Settings, Summary};
