@@ -102,8 +102,10 @@ fn check_each<R: Files + io::Input + AllocGlobal, W: Write, E: Write, P: Progres
     ensures quiet { settings.now.form ≡ Form.Quiet → out.new ≡ out.old }
 {
     let mut status = STATUS_OK;
-    'names: for (done, name) in names.iter().enumerate() {
+    let mut done = 0usize;
+    'names: for name in names {
         progress.show(done, names.len());
+        done = done.saturating_add(1);
         let found = check_group(rt, slice::from_ref(name), settings, summary, out, err)?;
         status = worse(status, found);
     }

@@ -10,7 +10,7 @@ pub returns-clause-told : goal.returns-clause-told
 returns-clause-told g c =
     let are : AreAnswers c.args.settings.now.features c.args.files.now c.in_ok-answers.answers.items = c.in_ok-answers.ensures in
     let worst : IsWorst c.in_ok-answers.answers.items (length c.args.files.now) c.worst_status-status.result =
-    subst (λ xs. IsWorst xs (length c.args.files.now) c.worst_status-status.result) c.as_slice-2.ensures.value c.worst_status-status.ensures.worst in
+    subst (λ xs. IsWorst xs (length c.args.files.now) c.worst_status-status.result) c.as_slice-3.ensures.value c.worst_status-status.ensures.worst in
     let most = are.at_most in
     let all = length-map c.args.files.now bytes_held in
     let short : length c.in_ok-answers.answers.items ≤ length c.args.files.now = omega (arith, most, all) in
