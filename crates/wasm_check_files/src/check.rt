@@ -44,7 +44,8 @@ pub fn check_files<R: Files + io::Input + AllocGlobal, W: Write, E: Write, P: Pr
     }
 }
 
-/// Checks files, by one validator or each by its own, as is asked for.
+/// Checks files, by one validator or each by its own, as is asked for, and prints how many ended in
+/// which way.
 fn check_all<R: Files + io::Input + AllocGlobal, W: Write, E: Write, P: Progress>(
     rt: &R,
     names: &[&str],
@@ -59,13 +60,31 @@ fn check_all<R: Files + io::Input + AllocGlobal, W: Write, E: Write, P: Progress
     ensures quiet { settings.now.form ≡ Form.Quiet → out.new ≡ out.old }
 {
     let mut summary = Summary::default();
-    let status = if settings.is_shared {
-        check_group(rt, names, settings, &mut summary, out, err)?
-    } else {
-        check_each(rt, names, settings, &mut summary, out, err, progress)?
-    };
+    let status = check_named(rt, names, settings, &mut summary, out, err, progress)?;
     print_summary(rt.alloc(), &summary, settings, out)?;
     Ok(status)
+}
+
+/// Checks files, and counts them.
+fn check_named<R: Files + io::Input + AllocGlobal, W: Write, E: Write, P: Progress>(
+    rt: &R,
+    names: &[&str],
+    settings: &Settings,
+    summary: &mut Summary,
+    out: &mut W,
+    err: &mut E,
+    progress: &mut P,
+) -> io::Result<u8>
+    ensures told { IfOk result (WereChecked settings.now.features
+        (room_for settings.now.features settings.now.is_shared) (length names.now)) }
+    ensures silent { IfOk result (λ status. (status ≡ STATUS_TROUBLE → ⊥) → err.new ≡ err.old) }
+    ensures quiet { settings.now.form ≡ Form.Quiet → out.new ≡ out.old }
+{
+    if settings.is_shared {
+        check_group(rt, names, settings, summary, out, err)
+    } else {
+        check_each(rt, names, settings, summary, out, err, progress)
+    }
 }
 
 /// Prints how many files ended in which way, where that is asked for.
