@@ -12,7 +12,7 @@ _wasm_check_features='
 _wasm_check_list() {
     local before='' names
     case $1 in *,*) before=${1%,*}, ;; esac
-    names="default all $(printf '+%s ' $_wasm_check_features)$(printf -- '-%s ' $_wasm_check_features)"
+    names="default all wasm3 $(printf '+%s ' $_wasm_check_features)$(printf -- '-%s ' $_wasm_check_features)"
     mapfile -t COMPREPLY < <(compgen -P "$before" -W "$names" -- "${1##*,}")
     compopt -o nospace
 }
@@ -25,8 +25,12 @@ _wasm_check() {
         _wasm_check_list ''
     elif [ "$last" = --features ] || { [ "$last" = = ] && [ "${COMP_WORDS[COMP_CWORD-2]}" = --features ]; }; then
         _wasm_check_list "$word"
+    elif [ "$word" = = ] && [ "$last" = --color ]; then
+        COMPREPLY=(auto always never)
+    elif [ "$last" = --color ] || { [ "$last" = = ] && [ "${COMP_WORDS[COMP_CWORD-2]}" = --color ]; }; then
+        mapfile -t COMPREPLY < <(compgen -W 'auto always never' -- "$word")
     elif [[ $word == -* ]]; then
-        mapfile -t COMPREPLY < <(compgen -W '--features --shared --json --types --quiet --help --version' -- "$word")
+        mapfile -t COMPREPLY < <(compgen -W '--recursive --features --shared --json --types --explain --summary --color --quiet --help --version' -- "$word")
     else
         compopt -o filenames
         mapfile -t COMPREPLY < <(compgen -f -X '!*.wasm' -- "$word"; compgen -d -- "$word")

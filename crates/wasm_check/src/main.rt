@@ -1,13 +1,19 @@
 //! `wasm-check [OPTIONS] FILE..` says of each file whether it is a valid WebAssembly module.
 #![tactic(auto)]
 
+mod meter;
 mod words;
 
 use anyhow::{Result, bail};
 use clap::ArgMatches;
+use meter::Meter;
 use std::alloc::Global;
+use std::env;
+use std::io::IsTerminal;
 use std::process::ExitCode;
-use wasm_check_files::{Form, Printable, STATUS_TROUBLE, Settings, check_files, select_features};
+use wasm_check_files::{
+    Form, Found, Printable, STATUS_TROUBLE, Settings, check_files, find_files, select_features,
+};
 use words::{command, end_of_help, gather_words, show_words, suggest};
 
 fn main(rt: HostRuntime) -> ExitCode {
@@ -56,8 +62,38 @@ fn check(rt: &HostRuntime, matches: &ArgMatches<'_>) -> Result<u8> {
     if names.iter().filter(|name| **name == "-").count() > 1 {
         bail!("standard input can be read only once");
     }
-    let settings = settings_of(rt.alloc(), matches)?;
-    Ok(check_files(rt, names, &settings, &mut rt.stdout(), &mut rt.stderr()))
+    let settings = settings_of(rt, matches)?;
+    if !matches.get_flag("recursive") {
+        return Ok(check_named(rt, names, &settings));
+    }
+    let Found { files, is_whole } = find_files(rt, names, &mut rt.stderr())?;
+    let mut names = Vec::with_capacity(rt.alloc(), files.len())?;
+    'files: for file in files.as_slice() {
+        names.push(file.as_str())?;
+    }
+    let status = check_named(rt, names.as_slice(), &settings);
+    if is_whole {
+        Ok(status)
+    } else {
+        Ok(STATUS_TROUBLE)
+    }
+}
+
+/// Checks the files with these names. Where lines don't come on a terminal, the error output says how
+/// far it is, if that is one.
+fn check_named(rt: &HostRuntime, names: &[&str], settings: &Settings) -> u8 {
+    let is_shown = matches!(settings.form, Form::Quiet) || !rt.stdout().is_terminal();
+    let mut meter = Meter::new(rt, is_shown && rt.stderr().is_terminal());
+    let status = check_files(
+        rt,
+        names,
+        settings,
+        &mut rt.stdout(),
+        &mut rt.stderr(),
+        &mut meter,
+    );
+    meter.end();
+    status
 }
 
 /// The error of a word that selects no features.
@@ -66,10 +102,20 @@ fn unknown_feature(alloc: Global, word: &str) -> Result<Settings> {
     bail!("--features: `{word}` is no feature with + or - before it; {hint}")
 }
 
-fn settings_of(alloc: Global, matches: &ArgMatches<'_>) -> Result<Settings> {
+/// Whether verdicts get colors.
+fn is_colored(rt: &HostRuntime, matches: &ArgMatches<'_>) -> Result<bool> {
+    match matches.get_str("color").unwrap_or("auto") {
+        "always" => Ok(true),
+        "never" => Ok(false),
+        "auto" => Ok(rt.stdout().is_terminal() && env::var(rt, "NO_COLOR").is_err()),
+        word => bail!("--color: `{word}` is none of `always`, `never` and `auto`"),
+    }
+}
+
+fn settings_of(rt: &HostRuntime, matches: &ArgMatches<'_>) -> Result<Settings> {
     let features = match select_features(matches.get_strs("features").unwrap_or(&[])) {
         Ok(features) => features,
-        Err(word) => return unknown_feature(alloc, word),
+        Err(word) => return unknown_feature(rt.alloc(), word),
     };
     let form = if matches.get_flag("quiet") {
         Form::Quiet
@@ -83,5 +129,8 @@ fn settings_of(alloc: Global, matches: &ArgMatches<'_>) -> Result<Settings> {
         is_shared: matches.get_flag("shared"),
         form,
         shows_items: matches.get_flag("types"),
+        explains: matches.get_flag("explain"),
+        summarizes: matches.get_flag("summary"),
+        is_colored: is_colored(rt, matches)?,
     })
 }

@@ -9,8 +9,8 @@ use wasm_check_files::{
 
 /// What `--help` says of features.
 const FEATURES: &str =
-    "Features that modules may use: `default`, `all`, or a feature's name with + or - before it, as in `default,-simd,+custom_page_sizes`, \
-from left to right behind `default`; names are in small letters, with _ or - between their words";
+    "Features that modules may use: `default`, `all`, `wasm3` for what the Core Specification 3.0 has, or a feature's name with + or - before it, \
+as in `default,-simd,+custom_page_sizes`, from left to right behind `default`; names are in small letters, with _ or - between their words";
 
 /// What `--help` says last.
 const STATUSES: &str =
@@ -20,7 +20,7 @@ const STATUSES: &str =
 const COLUMNS: usize = 78;
 
 /// The options that take no value, each with what `--help` says of it.
-const FLAGS: [(&str, &str); 4] = [
+const FLAGS: [(&str, &str); 6] = [
     (
         "shared",
         "Check all files by one validator, so that the ids of their types can be compared; a file that is refused for more than a body ends the list",
@@ -29,6 +29,14 @@ const FLAGS: [(&str, &str); 4] = [
     (
         "types",
         "Print the types of valid modules with their ids, and their imports, exports and index spaces",
+    ),
+    (
+        "explain",
+        "Print the section and the bytes at which a module is refused",
+    ),
+    (
+        "summary",
+        "Print at the end how many files ended in which way",
     ),
     ("quiet", "Print nothing on standard output"),
 ];
@@ -125,6 +133,7 @@ pub fn command<'a>(alloc: Global, end_of_help: &'a str) -> Result<Command<'a>, A
         .version("0.1.0")
         .about("Says of each file whether it is a valid WebAssembly module")
         .after_help(end_of_help)
+        .arg(recursive(alloc))?
         .arg(features(alloc))?
         .arg(files(alloc))?;
     'flags: for (name, help) in FLAGS {
@@ -135,7 +144,24 @@ pub fn command<'a>(alloc: Global, end_of_help: &'a str) -> Result<Command<'a>, A
                 .help(help),
         )?;
     }
-    Ok(command)
+    command.arg(color(alloc))
+}
+
+fn recursive<'a>(alloc: Global) -> Arg<'a> {
+    Arg::new(alloc, "recursive")
+        .short('r')
+        .long("recursive")
+        .action(ArgAction::SetTrue)
+        .help("Check the files in and below folders whose names end in .wasm")
+}
+
+fn color<'a>(alloc: Global) -> Arg<'a> {
+    Arg::new(alloc, "color")
+        .long("color")
+        .value_name("WHEN")
+        .help(
+            "Color verdicts: `always`, `never`, or `auto`, where a terminal shows them and NO_COLOR is not set [default: auto]",
+        )
 }
 
 fn features<'a>(alloc: Global) -> Arg<'a> {

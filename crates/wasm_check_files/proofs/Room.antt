@@ -4,9 +4,9 @@ use Rattle.std.specs.declared.alloc.Global.{Global}
 use Rattle.wasm_readers_errors.specs.WasmSpec.Features.{canonical}
 use Rattle.wasm_readers_errors.specs.WasmReadersFeatures.declared.features.WasmFeatures.{WasmFeatures}
 use Rattle.wasm_spec_rules.specs.FeatureFlags.{features_of}
-use Rattle.wasm_validate_files.proofs.WasmValidatorCanonical.Counted.{with_at_most}
-use Rattle.wasm_validate_files.specs.declared.files.Input.{Input}
-use Rattle.wasm_validate_files.specs.Files.{HasRoomForAll}
+use Rattle.wasm_check_reports.proofs.WasmValidateFiles.WasmValidatorCanonical.Counted.{with_at_most}
+use Rattle.wasm_check_reports.specs.WasmValidateFiles.declared.files.Input.{Input}
+use Rattle.wasm_check_reports.specs.WasmValidateFiles.Files.{HasRoomForAll}
 
 -- No module has more types than a list has ids for.
 pub room_for_one : (features : WasmFeatures) (f : Input Global) → HasRoomForAll features (f ∷ [])

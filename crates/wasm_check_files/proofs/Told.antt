@@ -8,13 +8,13 @@ use Rattle.std.specs.declared.result.Result.TheVariants.{Ok, Err}
 use Rattle.std.proofs.lemmas.Option.{slice_get_read}
 use Rattle.std.proofs.lemmas.List.Elements.{All-nil, All-cons, All-head, All-tail, All-append}
 use Rattle.wasm_readers_errors.specs.WasmReadersFeatures.declared.features.WasmFeatures.{WasmFeatures}
-use Rattle.wasm_validate_files.specs.WasmValidatorTypes.declared.shown.Types as shown
-use Rattle.wasm_validate_files.specs.WasmValidatorCore.declared.error.Error.{Error}
-use Rattle.wasm_validate_files.specs.WasmValidatorCore.declared.error.Error.TheVariants.{Refused, DuplicateExport, InFunction, OutOfMemory}
-use Rattle.wasm_validate_files.specs.declared.files.Input.{Input}
-use Rattle.wasm_validate_files.specs.Files.{IsRead, IsAccepted, AreAllAccepted, HasRoomForAll}
-use Rattle.wasm_validate_files.specs.Answers.{LacksMemory, IsOkAt, AreAnswers, Tells}
-use Rattle.wasm_validate_files.proofs.Told.{all_accepted, all_answered}
+use Rattle.wasm_check_reports.specs.WasmValidateFiles.WasmValidatorTypes.declared.shown.Types as shown
+use Rattle.wasm_check_reports.specs.WasmValidateFiles.WasmValidatorCore.declared.error.Error.{Error}
+use Rattle.wasm_check_reports.specs.WasmValidateFiles.WasmValidatorCore.declared.error.Error.TheVariants.{Refused, DuplicateExport, InFunction, OutOfMemory}
+use Rattle.wasm_check_reports.specs.WasmValidateFiles.declared.files.Input.{Input}
+use Rattle.wasm_check_reports.specs.WasmValidateFiles.Files.{IsRead, IsAccepted, AreAllAccepted, HasRoomForAll}
+use Rattle.wasm_check_reports.specs.WasmValidateFiles.Answers.{LacksMemory, IsOkAt, AreAnswers, Tells}
+use Rattle.wasm_check_reports.proofs.WasmValidateFiles.Told.{all_accepted, all_answered}
 use Rattle.wasm_check_files.proofs.Room.{room_for_one}
 use Rattle.wasm_check_files.specs.Statuses.{status_of, status_at, IsWorst}
 use Rattle.wasm_check_files.specs.Checked.{StatusTells, WereChecked}

@@ -2,9 +2,9 @@
 use Rattle.std.specs.Prelude.{ℕ, ◌≡◌, ◌≤◌, Bool, true, false, List, length, ⊤}
 use Rattle.std.specs.declared.alloc.Global.{Global}
 use Rattle.wasm_readers_errors.specs.WasmReadersFeatures.declared.features.WasmFeatures.{WasmFeatures}
-use Rattle.wasm_validate_files.specs.declared.files.Input.{Input}
-use Rattle.wasm_validate_files.specs.declared.files.TheConstants.{STATUS_OK, STATUS_REFUSED, STATUS_TROUBLE}
-use Rattle.wasm_validate_files.specs.Files.{AreAllAccepted, HasRoomForAll}
+use Rattle.wasm_check_reports.specs.WasmValidateFiles.declared.files.Input.{Input}
+use Rattle.wasm_check_reports.specs.WasmValidateFiles.declared.files.TheConstants.{STATUS_OK, STATUS_REFUSED, STATUS_TROUBLE}
+use Rattle.wasm_check_reports.specs.WasmValidateFiles.Files.{AreAllAccepted, HasRoomForAll}
 
 -- The status is that of these files: accepted where all are valid modules, and refused where not all are, as far as there is room.
 pub record StatusTells (features : WasmFeatures) (room : List (Input Global) → Type 0) (files : List (Input Global)) (status : ℕ) : Type 0 where

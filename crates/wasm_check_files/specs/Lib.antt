@@ -1,4 +1,3 @@
 pub mod Selecting
 pub mod Statuses
 pub mod Checked
-pub mod Counts

@@ -5,7 +5,11 @@ use Rattle.std.specs.Int.RustNames.{bit_or}
 use Rattle.std.specs.Str.{bytes_eq}
 use Rattle.bitflags.specs.Sets.{Row, without}
 use Rattle.wasm_readers_errors.specs.WasmReadersFeatures.declared.features.WasmFeatures.{WasmFeatures}
-use Rattle.wasm_readers_errors.specs.WasmReadersFeatures.declared.features.TheConstants.WasmFeatures.{STANDARD, ALL}
+use Rattle.wasm_readers_errors.specs.WasmReadersFeatures.declared.features.TheConstants.WasmFeatures.{STANDARD, ALL, THREADS, VECTOR_OPERATORS}
+
+-- what the Core Specification 3.0 has: the default features with vectors and without threads
+abbrev pub wasm3 : WasmFeatures
+wasm3 = record { 0 = bit_or (without 64 STANDARD.0 THREADS.0) VECTOR_OPERATORS.0 }
 
 -- the letter of a flag's name that this one stands for
 abbrev pub flag_letter : ℕ → ℕ
@@ -41,6 +45,7 @@ module _ (table : List Row) where
   changed features word =
       if bytes_eq word (codes "default") then Some STANDARD
       else if bytes_eq word (codes "all") then Some ALL
+      else if bytes_eq word (codes "wasm3") then Some wasm3
       else with_named features word
 
   -- the features behind words, one after another, from the default ones on

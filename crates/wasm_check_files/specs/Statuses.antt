@@ -2,10 +2,10 @@
 use Rattle.std.specs.Prelude.{ℕ, ◌≡◌, ◌<◌, ◌≤◌, ◌⊎◌, List, slice_get, Option, Some, None}
 use Rattle.std.specs.declared.result.Result.{Result}
 use Rattle.std.specs.declared.result.Result.TheVariants.{Ok, Err}
-use Rattle.wasm_validate_files.specs.WasmValidatorTypes.declared.shown.Types as shown
-use Rattle.wasm_validate_files.specs.WasmValidatorCore.declared.error.Error.{Error}
-use Rattle.wasm_validate_files.specs.WasmValidatorCore.declared.error.Error.TheVariants.{Refused, DuplicateExport, InFunction, OutOfMemory}
-use Rattle.wasm_validate_files.specs.declared.files.TheConstants.{STATUS_OK, STATUS_REFUSED, STATUS_TROUBLE}
+use Rattle.wasm_check_reports.specs.WasmValidateFiles.WasmValidatorTypes.declared.shown.Types as shown
+use Rattle.wasm_check_reports.specs.WasmValidateFiles.WasmValidatorCore.declared.error.Error.{Error}
+use Rattle.wasm_check_reports.specs.WasmValidateFiles.WasmValidatorCore.declared.error.Error.TheVariants.{Refused, DuplicateExport, InFunction, OutOfMemory}
+use Rattle.wasm_check_reports.specs.WasmValidateFiles.declared.files.TheConstants.{STATUS_OK, STATUS_REFUSED, STATUS_TROUBLE}
 
 module _ {A : Type 0} where
   abbrev pub status_of_error : Error A → ℕ

@@ -2,38 +2,39 @@
 
 ghost use Rattle.std.specs.Prelude.{◌≡◌, ◌≤◌, ◌⊎◌, IfOk, length, Some, ⊤};
 ghost use Rattle.std.specs.List.{All};
-ghost use Rattle.wasm_validate_files.specs.Files.{IsRead, HasRoomForAll};
+ghost use Rattle.wasm_check_reports.specs.WasmValidateFiles.Files.{IsRead, HasRoomForAll};
 ghost use Rattle.wasm_check_files.specs.Checked.{StatusTells, WereChecked, room_for};
 ghost use Rattle.wasm_check_files.specs.Statuses.{IsWorst, status_at, status_of, status_of_error};
 
-use crate::json::write_unread;
-use crate::lines::write_report;
+use crate::progress::Progress;
 use crate::read::{read_file, shown_name};
-use crate::settings::{Form, Settings};
 use std::alloc::{AllocError, Global};
 use std::io::{self, Write};
 use std::rt::Files;
 use std::slice;
-use wasm_validate_files::validator::Error;
-use wasm_validate_files::{
+use wasm_check_reports::files::validator::Error;
+use wasm_check_reports::files::{
     Answer, Input, Printable, STATUS_OK, STATUS_REFUSED, STATUS_TROUBLE, answer_files,
 };
+use wasm_check_reports::{Form, Settings, Summary, write_report, write_summary, write_unread};
 
 /// Checks the files with these names, in order, and prints of each what is asked for. A file that
-/// can't be read is told on `err` with the reason. The answer is the exit status.
-pub fn check_files<R: Files + io::Input + AllocGlobal, W: Write, E: Write>(
+/// can't be read is told on `err` with the reason. `progress` is shown how many were checked by a
+/// validator of their own. The answer is the exit status.
+pub fn check_files<R: Files + io::Input + AllocGlobal, W: Write, E: Write, P: Progress>(
     rt: &R,
     names: &[&str],
     settings: &Settings,
     out: &mut W,
     err: &mut E,
+    progress: &mut P,
 ) -> u8
     ensures told { WereChecked settings.now.features
         (room_for settings.now.features settings.now.is_shared) (length names.now) result }
     ensures silent { (result ≡ STATUS_TROUBLE → ⊥) → err.new ≡ err.old }
     ensures quiet { settings.now.form ≡ Form.Quiet → out.new ≡ out.old }
 {
-    match check_all(rt, names, settings, out, err) {
+    match check_all(rt, names, settings, out, err, progress) {
         Ok(status) => status,
         Err(error) => {
             let error = Printable(error);
@@ -43,13 +44,36 @@ pub fn check_files<R: Files + io::Input + AllocGlobal, W: Write, E: Write>(
     }
 }
 
-/// Checks files, by one validator or each by its own, as is asked for.
-fn check_all<R: Files + io::Input + AllocGlobal, W: Write, E: Write>(
+/// Checks files, by one validator or each by its own, as is asked for, and prints how many ended in
+/// which way.
+fn check_all<R: Files + io::Input + AllocGlobal, W: Write, E: Write, P: Progress>(
     rt: &R,
     names: &[&str],
     settings: &Settings,
     out: &mut W,
     err: &mut E,
+    progress: &mut P,
+) -> io::Result<u8>
+    ensures told { IfOk result (WereChecked settings.now.features
+        (room_for settings.now.features settings.now.is_shared) (length names.now)) }
+    ensures silent { IfOk result (λ status. (status ≡ STATUS_TROUBLE → ⊥) → err.new ≡ err.old) }
+    ensures quiet { settings.now.form ≡ Form.Quiet → out.new ≡ out.old }
+{
+    let mut summary = Summary::default();
+    let status = check_named(rt, names, settings, &mut summary, out, err, progress)?;
+    print_summary(rt.alloc(), &summary, settings, out)?;
+    Ok(status)
+}
+
+/// Checks files, and counts them.
+fn check_named<R: Files + io::Input + AllocGlobal, W: Write, E: Write, P: Progress>(
+    rt: &R,
+    names: &[&str],
+    settings: &Settings,
+    summary: &mut Summary,
+    out: &mut W,
+    err: &mut E,
+    progress: &mut P,
 ) -> io::Result<u8>
     ensures told { IfOk result (WereChecked settings.now.features
         (room_for settings.now.features settings.now.is_shared) (length names.now)) }
@@ -57,27 +81,51 @@ fn check_all<R: Files + io::Input + AllocGlobal, W: Write, E: Write>(
     ensures quiet { settings.now.form ≡ Form.Quiet → out.new ≡ out.old }
 {
     if settings.is_shared {
-        check_group(rt, names, settings, out, err)
+        check_group(rt, names, settings, summary, out, err)
     } else {
-        check_each(rt, names, settings, out, err)
+        check_each(rt, names, settings, summary, out, err, progress)
+    }
+}
+
+/// Prints how many files ended in which way, where that is asked for.
+fn print_summary<W: Write>(
+    alloc: Global,
+    summary: &Summary,
+    settings: &Settings,
+    out: &mut W,
+) -> io::Result<()>
+    ensures quiet { settings.now.form ≡ Form.Quiet → out.new ≡ out.old }
+{
+    match settings.form {
+        Form::Text | Form::Json if settings.summarizes => {
+            let mut text = String::new(alloc);
+            write_summary(&mut text, alloc, summary, settings.form)?;
+            out.write_all(text.as_bytes())
+        }
+        Form::Text | Form::Json | Form::Quiet => Ok(()),
     }
 }
 
 /// Checks files, each by a validator of its own.
-fn check_each<R: Files + io::Input + AllocGlobal, W: Write, E: Write>(
+fn check_each<R: Files + io::Input + AllocGlobal, W: Write, E: Write, P: Progress>(
     rt: &R,
     names: &[&str],
     settings: &Settings,
+    summary: &mut Summary,
     out: &mut W,
     err: &mut E,
+    progress: &mut P,
 ) -> io::Result<u8>
     ensures told { IfOk result (WereChecked settings.now.features (λ _. ⊤) (length names.now)) }
     ensures silent { IfOk result (λ status. (status ≡ STATUS_TROUBLE → ⊥) → err.new ≡ err.old) }
     ensures quiet { settings.now.form ≡ Form.Quiet → out.new ≡ out.old }
 {
     let mut status = STATUS_OK;
+    let mut done = 0usize;
     'names: for name in names {
-        let found = check_group(rt, slice::from_ref(name), settings, out, err)?;
+        progress.show(done, names.len());
+        done = done.saturating_add(1);
+        let found = check_group(rt, slice::from_ref(name), settings, summary, out, err)?;
         status = worse(status, found);
     }
     Ok(status)
@@ -88,6 +136,7 @@ fn check_group<R: Files + io::Input + AllocGlobal, W: Write, E: Write>(
     rt: &R,
     names: &[&str],
     settings: &Settings,
+    summary: &mut Summary,
     out: &mut W,
     err: &mut E,
 ) -> io::Result<u8>
@@ -100,10 +149,13 @@ fn check_group<R: Files + io::Input + AllocGlobal, W: Write, E: Write>(
     'names: for name in names {
         match read_file(rt, name) {
             Ok(bytes) => files.push(input_of(rt.alloc(), name, bytes)?)?,
-            Err(error) => tell_unread(rt.alloc(), name, &error, settings, out, err)?,
+            Err(error) => {
+                summary.count_unread();
+                tell_unread(rt.alloc(), name, &error, settings, out, err)?;
+            }
         }
     }
-    let status = check_inputs(rt.alloc(), files.as_slice(), settings, out, err)?;
+    let status = check_inputs(rt.alloc(), files.as_slice(), settings, summary, out, err)?;
     if files.len() < names.len() {
         return Ok(STATUS_TROUBLE);
     }
@@ -152,12 +204,13 @@ fn print_unread<W: Write>(
     out.write_all(text.as_bytes())
 }
 
-/// Checks files that were read, by one validator, and prints of each what is asked for. The answer is
-/// the exit status.
+/// Checks files that were read, by one validator, prints of each what is asked for, and counts it. The
+/// answer is the exit status.
 pub fn check_inputs<W: Write, E: Write>(
     alloc: Global,
     files: &[Input],
     settings: &Settings,
+    summary: &mut Summary,
     out: &mut W,
     err: &mut E,
 ) -> io::Result<u8>
@@ -169,9 +222,17 @@ pub fn check_inputs<W: Write, E: Write>(
 {
     let answers = answer_files(alloc, files, settings.features)?;
     print_wanted(alloc, files, answers.as_slice(), settings, out)?;
+    count_answers(summary, files, answers.as_slice());
     let status = worst_status(answers.as_slice(), files.len());
     tell_refused_memory(status, files, answers.as_slice(), err);
     Ok(status)
+}
+
+/// Counts each file, with its answer if it has one.
+fn count_answers(summary: &mut Summary, files: &[Input], answers: &[Answer<Global>]) {
+    'places: for place in 0..files.len() {
+        summary.count(answers.get(place));
+    }
 }
 
 /// Says for which files memory was refused, where the status is that of trouble.

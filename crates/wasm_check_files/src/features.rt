@@ -1,13 +1,23 @@
 //! The proposals that words on the command line name.
 
 ghost use Rattle.std.specs.Prelude.{◌≡◌, IfOk, IfErr, Some, map, option_map};
-ghost use Rattle.wasm_check_files.specs.Selecting.{changed, selected, bits_named, is_named, flag_letter, IsUnknown};
+ghost use Rattle.wasm_check_files.specs.Selecting.{changed, selected, wasm3, bits_named, is_named, flag_letter, IsUnknown};
 
 use bitflags::Flag;
-pub use wasm_validate_files::validator::{Flags, WasmFeatures};
+pub use wasm_check_reports::files::validator::{Flags, WasmFeatures};
 
-/// The features that these words select, one after another, from the default ones on: `default` and
-/// `all` select those, of which neither has `CRATE_LIMITS`, `+name` adds a feature, and `-name` takes
+/// What the Core Specification 3.0 has, as far as features decide it: the default features with vectors
+/// and without threads.
+pub fn wasm3() -> WasmFeatures
+    ensures { result ≡ wasm3 }
+{
+    WasmFeatures::STANDARD
+        .difference(WasmFeatures::THREADS)
+        .union(WasmFeatures::VECTOR_OPERATORS)
+}
+
+/// The features that these words select, one after another, from the default ones on: `default`, `all`
+/// and `wasm3` select those, of which none has `CRATE_LIMITS`, `+name` adds a feature, and `-name` takes
 /// one away. A name is that of a flag of [`WasmFeatures`] in small letters, with `-` or `_` between
 /// its words.
 ///
@@ -39,6 +49,9 @@ fn change_features(features: WasmFeatures, word: &str) -> Option<WasmFeatures>
     }
     if word == "all" {
         return Some(WasmFeatures::ALL);
+    }
+    if word == "wasm3" {
+        return Some(wasm3());
     }
     let (sign, name) = word.as_bytes().split_first()?;
     let feature = find_feature(WasmFeatures::flags(), name)?;

@@ -1,22 +1,21 @@
-//! What `wasm-check` says of files: of each whether it is a valid WebAssembly module, on request with
-//! its types, imports, exports and index spaces, as text or as JSON.
+//! What `wasm-check` does with files: it finds them in folders, reads and checks them, and prints of
+//! each what `wasm_check_reports` writes; and which features words select.
 #![tactic(auto)]
 
 mod check;
 mod features;
-mod imports;
-mod items;
-mod json;
-mod lines;
+mod folders;
+mod progress;
 mod read;
-mod settings;
 mod suggestions;
 
 pub use check::{check_files, check_inputs};
-pub use features::{Flags, WasmFeatures, select_features};
+pub use features::{Flags, WasmFeatures, select_features, wasm3};
+pub use folders::{Found, find_files};
+pub use progress::Progress;
 pub use read::{NO_TEXT, read_known_size};
-pub use settings::{Form, Settings};
 pub use suggestions::nearest_feature;
-pub use wasm_validate_files::{
+pub use wasm_check_reports::files::{
     Input, Printable, STATUS_OK, STATUS_REFUSED, STATUS_TROUBLE, Word, read_words,
 };
+pub use wasm_check_reports::{Form, Settings, Summary};

@@ -1,7 +1,7 @@
 use Rattle.std.proofs.Common.{◌≡◌}
 use Rattle.std.specs.Prelude.{⊤}
 use Rattle.wasm_check_files.specs.Checked.{WereChecked}
-use Rattle.wasm_check_files.specs.declared.settings.Form.TheVariants.{Quiet}
+use Rattle.wasm_check_reports.specs.declared.settings.Form.TheVariants.{Quiet}
 use Rattle.wasm_check_files.proofs.check.check_each.Given as goal
 
 abbrev pub invariant-names : goal.invariant-names

@@ -1,7 +1,7 @@
 use Rattle.std.proofs.Common.{◌≡◌, ◌≤◌, length, subst, arith}
 use Rattle.std.proofs.lemmas.List.{length-map}
-use Rattle.wasm_validate_files.specs.Files.{bytes_held}
-use Rattle.wasm_validate_files.specs.Answers.{AreAnswers}
+use Rattle.wasm_check_reports.specs.WasmValidateFiles.Files.{bytes_held}
+use Rattle.wasm_check_reports.specs.WasmValidateFiles.Answers.{AreAnswers}
 use Rattle.wasm_check_files.specs.Statuses.{IsWorst}
 use Rattle.wasm_check_files.proofs.Told.{status_tells}
 use Rattle.wasm_check_files.proofs.check.check_inputs.Goals as goal
@@ -10,7 +10,7 @@ pub returns-clause-told : goal.returns-clause-told
 returns-clause-told g c =
     let are : AreAnswers c.args.settings.now.features c.args.files.now c.in_ok-answers.answers.items = c.in_ok-answers.ensures in
     let worst : IsWorst c.in_ok-answers.answers.items (length c.args.files.now) c.worst_status-status.result =
-    subst (λ xs. IsWorst xs (length c.args.files.now) c.worst_status-status.result) c.as_slice-2.ensures.value c.worst_status-status.ensures.worst in
+    subst (λ xs. IsWorst xs (length c.args.files.now) c.worst_status-status.result) c.as_slice-3.ensures.value c.worst_status-status.ensures.worst in
     let most = are.at_most in
     let all = length-map c.args.files.now bytes_held in
     let short : length c.in_ok-answers.answers.items ≤ length c.args.files.now = omega (arith, most, all) in

@@ -1,6 +1,6 @@
 //! What is asked for on the command line.
 
-use crate::features::WasmFeatures;
+use wasm_validate_files::validator::WasmFeatures;
 
 /// How lines are printed.
 #[derive(Clone, Copy)]
@@ -24,4 +24,10 @@ pub struct Settings {
     pub form: Form,
     /// Whether the items of accepted modules are printed too.
     pub shows_items: bool,
+    /// Whether the bytes where a module is refused are printed too.
+    pub explains: bool,
+    /// Whether the last line says how many files ended in which way.
+    pub summarizes: bool,
+    /// Whether verdicts have colors in lines that a person reads.
+    pub is_colored: bool,
 }

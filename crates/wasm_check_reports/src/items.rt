@@ -2,7 +2,7 @@
 
 ghost use Rattle.std.specs.Prelude.{◌≡◌, ◌<◌};
 ghost use Rattle.wasm_validate_files.specs.WasmValidatorTypes.Shown.{shown_by};
-ghost use Rattle.wasm_check_files.specs.Counts.{count_in};
+ghost use Rattle.wasm_check_reports.specs.Counts.{count_in};
 
 use crate::imports::write_imports;
 use crate::settings::Form;

@@ -1,9 +1,9 @@
 -- How many there are in an index space of a module. Core Specification 3.0, Syntax, Modules, Indices.
 use Rattle.std.specs.Prelude.{ℕ, ◌+◌, length, min}
 use Rattle.wasm_validate_files.specs.WasmValidatorTypes.Spaces.{Spaces}
-use Rattle.wasm_check_files.specs.declared.imports.Imported.{Imported}
-use Rattle.wasm_check_files.specs.declared.items.Space.{Space}
-use Rattle.wasm_check_files.specs.declared.items.Space.TheVariants as of
+use Rattle.wasm_check_reports.specs.declared.imports.Imported.{Imported}
+use Rattle.wasm_check_reports.specs.declared.items.Space.{Space}
+use Rattle.wasm_check_reports.specs.declared.items.Space.TheVariants as of
 
 abbrev pub count_in : Spaces → Space → ℕ
 count_in spaces of.Types = length spaces.types

@@ -2,7 +2,7 @@
 //! with the same names together, so it tells neither the place of one nor its index.
 
 ghost use Rattle.std.specs.Prelude.{◌≡◌};
-ghost use Rattle.wasm_check_files.specs.Counts.{imported_in, imported_with_one, one_more};
+ghost use Rattle.wasm_check_reports.specs.Counts.{imported_in, imported_with_one, one_more};
 
 use crate::items::{Item, Kind, Space, write_item};
 use crate::settings::Form;

@@ -1,12 +1,14 @@
 //! JSON objects, one on each line.
 
-use crate::features::WasmFeatures;
+use crate::function_names::name_of_function;
 use crate::items::{Item, Kind, SPACES, count_in, plural, singular, word_of};
+use crate::places::{Place, bytes_around, find_place, section_name};
+use crate::summary::Summary;
 use bitflags::Flags;
 use serde_json::{Map, Value, put};
 use std::alloc::{AllocError, Global};
 use std::io;
-use wasm_validate_files::validator::{Error, TypesRef};
+use wasm_validate_files::validator::{Error, TypesRef, WasmFeatures};
 use wasm_validate_files::{Answer, Input, bytes_of, count_exports, count_imports, hint_of};
 
 /// The members of an object that is made.
@@ -18,12 +20,21 @@ pub fn write_verdict(
     alloc: Global,
     file: &Input,
     answer: Option<&Answer<Global>>,
+    explains: bool,
 ) -> Result<(), AllocError> {
     let mut members = Map::new(alloc);
     put_text(&mut members, alloc, "file", file.name.as_str())?;
     match answer {
         Some(Ok(types)) => put_valid(&mut members, alloc, &types.as_ref())?,
-        Some(Err(error)) => put_error(&mut members, alloc, hint_of(bytes_of(file)), error)?,
+        Some(Err(error)) if error.is_out_of_memory() => {
+            put_text(&mut members, alloc, "verdict", "out of memory")?;
+        }
+        Some(Err(error)) => {
+            put_error(&mut members, alloc, bytes_of(file), error)?;
+            if explains {
+                put_place(&mut members, alloc, bytes_of(file), error.offset())?;
+            }
+        }
         None => put_text(&mut members, alloc, "verdict", "not checked")?,
     }
     write_line(text, alloc, members)
@@ -111,23 +122,76 @@ fn put_counts(
 fn put_error(
     members: &mut Members,
     alloc: Global,
-    hint: &str,
+    bytes: &[u8],
     error: &Error<Global>,
 ) -> Result<(), AllocError> {
-    if error.is_out_of_memory() {
-        return put_text(members, alloc, "verdict", "out of memory");
-    }
     put_text(members, alloc, "verdict", "invalid")?;
     put_number(members, alloc, "offset", error.offset())?;
     if let Some(function) = error.function() {
         put_number(members, alloc, "function", u64::from(function))?;
+        if let Some(name) = name_of_function(alloc, bytes, function) {
+            put_text(members, alloc, "function_name", name)?;
+        }
     }
-    put_message(members, alloc, error, hint)?;
+    put_message(members, alloc, error, hint_of(bytes))?;
     if let Some(missing) = error.missing_features() {
         let names = names_of(alloc, missing)?;
         put(members, alloc, "missing_features", Value::Array(names))?;
     }
     Ok(())
+}
+
+/// Puts in which section an offset is, if it is in one, and the bytes around it.
+fn put_place(
+    members: &mut Members,
+    alloc: Global,
+    bytes: &[u8],
+    offset: u64,
+) -> Result<(), AllocError> {
+    if let Place::In(section) = find_place(bytes, offset) {
+        let mut place = Map::new(alloc);
+        put_text(&mut place, alloc, "name", section_name(section.id))?;
+        put_number(&mut place, alloc, "start", section.start)?;
+        put_number(&mut place, alloc, "end", section.end)?;
+        put(members, alloc, "section", Value::Object(place))?;
+    }
+    let (front, back) = bytes_around(bytes, offset);
+    let mut hex = String::new(alloc);
+    write_hex(&mut hex, front)?;
+    write_hex(&mut hex, back)?;
+    let mut around = Map::new(alloc);
+    put_number(
+        &mut around,
+        alloc,
+        "start",
+        offset.saturating_sub(front.len() as u64),
+    )?;
+    put(&mut around, alloc, "hex", Value::String(hex))?;
+    put(members, alloc, "bytes", Value::Object(around))
+}
+
+/// Writes two hexadecimal digits for each byte.
+fn write_hex(text: &mut String, bytes: &[u8]) -> Result<(), AllocError> {
+    'bytes: for byte in bytes {
+        write!(text, "{byte:02x}")?;
+    }
+    Ok(())
+}
+
+/// Writes the object that says how many files ended in which way.
+pub fn write_summary(
+    text: &mut String,
+    alloc: Global,
+    summary: &Summary,
+) -> Result<(), AllocError> {
+    let mut counts = Map::new(alloc);
+    put_number(&mut counts, alloc, "valid", summary.valid)?;
+    put_number(&mut counts, alloc, "invalid", summary.invalid)?;
+    put_number(&mut counts, alloc, "not_checked", summary.not_checked)?;
+    put_number(&mut counts, alloc, "failed", summary.failed)?;
+    let mut members = Map::new(alloc);
+    put(&mut members, alloc, "summary", Value::Object(counts))?;
+    write_line(text, alloc, members)
 }
 
 /// The names of features.

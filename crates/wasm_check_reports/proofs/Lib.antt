@@ -1,0 +1,1 @@
+pub use Rattle.wasm_validate_files.proofs as WasmValidateFiles

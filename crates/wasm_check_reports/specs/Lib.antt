@@ -1,0 +1,4 @@
+pub use Rattle.wasm_validate_files.specs as WasmValidateFiles
+pub mod Counts
+pub mod Places
+pub mod Summaries

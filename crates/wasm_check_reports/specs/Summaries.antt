@@ -1,0 +1,26 @@
+-- How many files ended in which way.
+use Rattle.std.specs.Prelude.{ℕ, ◌+◌, min, Option, Some, None}
+use Rattle.std.specs.declared.result.Result.{Result}
+use Rattle.std.specs.declared.result.Result.TheVariants.{Ok, Err}
+use Rattle.wasm_validate_files.specs.WasmValidatorTypes.declared.shown.Types as shown
+use Rattle.wasm_validate_files.specs.WasmValidatorCore.declared.error.Error.{Error}
+use Rattle.wasm_validate_files.specs.WasmValidatorCore.declared.error.Error.TheVariants.{Refused, DuplicateExport, InFunction, OutOfMemory}
+use Rattle.wasm_check_reports.specs.declared.summary.Summary.{Summary}
+
+-- one more, as far as 64 bits count
+abbrev pub one_more : ℕ → ℕ
+one_more n = min (n + 1) 0xFFFF_FFFF_FFFF_FFFF
+
+module _ {A : Type 0} where
+  -- with one more file that ended by this error
+  abbrev pub with_error : Summary → Error A → Summary
+  with_error s (Refused r) = record s { invalid = one_more s.invalid }
+  with_error s (DuplicateExport name offset) = record s { invalid = one_more s.invalid }
+  with_error s (InFunction index r) = record s { invalid = one_more s.invalid }
+  with_error s OutOfMemory = record s { failed = one_more s.failed }
+
+  -- with one more file that was read, which has this answer if it was checked
+  abbrev pub with_answer : Summary → Option (Result (shown.Types A) (Error A)) → Summary
+  with_answer s None = record s { not_checked = one_more s.not_checked }
+  with_answer s (Some (Ok t)) = record s { valid = one_more s.valid }
+  with_answer s (Some (Err e)) = with_error s e
