@@ -4,7 +4,7 @@
 
 ghost use Rattle.std.specs.Prelude.{◌≡◌, ◌≤◌, map};
 ghost use Rattle.bitflags.specs.Sets.{known_bits};
-ghost use Rattle.wasm_validator.specs.Verdict.{AreModule, AreNoModule};
+ghost use Rattle.wasm_validator_handles.specs.WasmValidator.Verdict.{AreModule, AreNoModule};
 ghost use Rattle.ruthvelka_c.specs.Arrays.{HasText};
 ghost use Rattle.ruthvelka_c.specs.Externs.{ToldWithExterns};
 ghost use Rattle.ruthvelka_c.specs.Lists.{ToldList, ToldQueries, bytes_of};
@@ -14,6 +14,7 @@ ghost use Rattle.ruthvelka_c.specs.Reports.{Told, ToldWithIds, flags};
 mod answers;
 mod arrays;
 mod externs;
+mod handles;
 mod lists;
 mod names;
 mod queries;
@@ -23,6 +24,9 @@ use answers::{answer_alone, answer_list, write_ids};
 use arrays::write_numbers;
 pub use externs::{EXACT_FUNCTION, Extern, FUNCTION, GLOBAL, MEMORY, NO_ID, TABLE, TAG};
 use externs::{gather_externs, write_all};
+pub use handles::{
+    STATUS_DONE, STATUS_FAILED, STATUS_NO_MEMORY, STATUS_REFUSED, STATUS_VALID, STATUS_WRONG,
+};
 pub use lists::Bytes;
 use lists::{gather_functions, gather_types, write_reports};
 use names::{all_features, find_feature, find_name, write_name};
@@ -31,7 +35,7 @@ pub use queries::{IS_SUBTYPE, MAY_BE_GIVEN, NO, Query, UNKNOWN, YES};
 use report::{report_no_memory, report_of, report_with_names, write_message};
 pub use report::{NO_FUNCTION, NO_MEMORY, NOT_CHECKED, REFUSED, Report, VALID};
 use std::alloc::Global;
-use wasm_validator::{Flags, WasmFeatures};
+use wasm_validator_handles::validator::{Flags, WasmFeatures};
 
 /// The version of the library, as major · 1,000,000 + minor · 1,000 + patch.
 #[unsafe(no_mangle)]

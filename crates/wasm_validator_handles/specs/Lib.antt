@@ -1,0 +1,3 @@
+pub use Rattle.wasm_validator.specs as WasmValidator
+pub mod Handle
+pub mod Keeping
