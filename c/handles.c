@@ -33,7 +33,7 @@ static const struct ruthvelka_allocator *allocator_of(void *const *words) {
 
 /* Whether a handle may be filled. */
 static bool is_nothing(void *const *words) {
-    return words && !words[PLACE];
+    return !words[PLACE];
 }
 
 static bool is_allocator(const struct ruthvelka_allocator *it) {
@@ -102,8 +102,7 @@ uint32_t ruthvelka_validator_validate(struct ruthvelka_validator *validator, con
     struct ruthvelka_report report;
     struct ruthvelka_types unkept = RUTHVELKA_NOTHING;
     struct ruthvelka_types *const to = types ? types : &unkept;
-    if (!validator || !validator->words[PLACE] || !is_nothing(to->words) || !is_outcome(outcome)
-        || !is_array(bytes, length, 1) || !is_array(message, message_room, 1))
+    if (!validator || !is_nothing(to->words) || !is_outcome(outcome) || !is_array(bytes, length, 1) || !is_array(message, message_room, 1))
         return tell_nothing(outcome, RUTHVELKA_STATUS_WRONG);
     const struct ruthvelka_allocator *const before = ruthvelka_lend_allocator(allocator_of(validator->words));
     const uint32_t status = ruthvelka_proved_validator_validate(&validator->words[PLACE], bytes ? bytes : none.bytes, length,
@@ -127,7 +126,7 @@ void ruthvelka_validator_free(struct ruthvelka_validator *validator) {
 }
 
 uint32_t ruthvelka_types_retain(struct ruthvelka_types *types, struct ruthvelka_types *copy) {
-    if (!types || !types->words[PLACE] || !copy || !is_nothing(copy->words)) return RUTHVELKA_STATUS_WRONG;
+    if (!types || !copy || !is_nothing(copy->words)) return RUTHVELKA_STATUS_WRONG;
     const struct ruthvelka_allocator *const before = ruthvelka_lend_allocator(allocator_of(types->words));
     const uint32_t status = ruthvelka_proved_types_retain(&types->words[PLACE], &copy->words[PLACE]);
     ruthvelka_lend_allocator(before);
@@ -142,7 +141,7 @@ void ruthvelka_types_release(struct ruthvelka_types *types) {
 uint32_t ruthvelka_types_ids(struct ruthvelka_types *types, struct ruthvelka_outcome *outcome, uint32_t *type_ids, size_t type_room,
     uint32_t *function_ids, size_t function_room) {
     struct ruthvelka_report report;
-    if (!types || !types->words[PLACE] || !is_outcome(outcome) || !is_array(type_ids, type_room, sizeof *type_ids)
+    if (!types || !is_outcome(outcome) || !is_array(type_ids, type_room, sizeof *type_ids)
         || !is_array(function_ids, function_room, sizeof *function_ids))
         return tell_nothing(outcome, RUTHVELKA_STATUS_WRONG);
     const uint32_t status = ruthvelka_proved_types_ids(&types->words[PLACE], &report, type_ids ? type_ids : none.numbers, type_room,

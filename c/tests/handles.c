@@ -202,6 +202,7 @@ static void try_allocators(void) {
     struct ruthvelka_validator validator = NOTHING, plain = NOTHING;
     expect("over an arena", ruthvelka_validator_new(&validator, STANDARD, &over) == DONE && arena.blocks == 1);
     expect("over malloc", ruthvelka_validator_new(&plain, STANDARD, NULL) == DONE);
+    expect("no memory without a handle", ruthvelka_check(many, sizeof many, STANDARD, NULL, 0, NULL) == NO_MEMORY);
     try_row(&validator), try_row(&plain);
     expect("memory is held", arena.blocks > 1);
     ruthvelka_validator_free(&validator), ruthvelka_validator_free(&plain);

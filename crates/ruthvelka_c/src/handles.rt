@@ -1,7 +1,14 @@
 //! Validators, and the types of modules, behind handles that C keeps between calls.
 
-ghost use Rattle.std.specs.Prelude.{◌≡◌, ◌≢◌, ◌≤◌};
+ghost use Rattle.std.specs.Prelude.{◌≡◌, ◌⊎◌, length, nat_lt};
+ghost use Rattle.std.specs.Bool.{Decides};
 ghost use Rattle.std.specs.declared.option.Option.TheVariants.{None as Nothing, Some as Just};
+ghost use Rattle.wasm_validator_handles.specs.Keeping.{AreTypes, Answers, types_of, validator_of};
+ghost use Rattle.wasm_validator_handles.specs.WasmValidator.Standing.{fresh};
+ghost use Rattle.wasm_validator_handles.specs.WasmValidator.WasmValidatorTypes.Shown.{shown_by};
+ghost use Rattle.ruthvelka_c.specs.Arrays.{HasText};
+ghost use Rattle.ruthvelka_c.specs.Handles.{AreModuleHere, SaysLinked, SaysSubtype, TellsAnswer, TellsIds, TellsOn, TellsReset, error_status, longer, refusal_status};
+ghost use Rattle.ruthvelka_c.specs.Reports.{flags};
 
 use crate::arrays::{write_function_ids, write_type_ids};
 use crate::lists::not_checked;
@@ -9,7 +16,7 @@ use crate::queries::{judge_below, nth_export, nth_import, say_given};
 use crate::report::{Answer, Report, report_counts, report_of, report_refusal, write_message};
 use std::alloc::Global;
 use wasm_validator_handles::validator::{
-    CoreTypeId, Error, Flags, TypeList, TypesRef, Validator, ValidatorId, WasmFeatures,
+    CoreTypeId, Error, Flags, TypeList, Types, Validator, ValidatorId, WasmFeatures,
 };
 use wasm_validator_handles::{Handle, Kept, NotAsked};
 
@@ -34,6 +41,10 @@ pub extern "C" fn ruthvelka_proved_validator_new(
     number: usize,
     validator: &mut Handle,
 ) -> u32
+    ensures made { result ≡ STATUS_DONE
+        → validator_of validator.new.value ≡ Just (fresh number (flags features)) }
+    ensures refused { result ≡ STATUS_NO_MEMORY → validator.new.value ≡ validator.old.value }
+    ensures known { (result ≡ STATUS_DONE) ⊎ (result ≡ STATUS_NO_MEMORY) }
 {
     let features = WasmFeatures::from_bits_retain(features);
     let made = Validator::new_with_features(alloc, features, ValidatorId::from_number(number));
@@ -63,6 +74,10 @@ pub extern "C" fn ruthvelka_proved_validator_validate(
     report: &mut Report,
     types: &mut Handle,
 ) -> u32
+    ensures told { TellsOn bytes.now validator.old.value validator.new.value report.new
+        types.new.value result }
+    ensures valid { result ≡ STATUS_VALID → AreModuleHere validator.old.value bytes.now }
+    ensures message { HasText report.new.message_length message.old message.new }
 {
     drop(types.open(alloc));
     match validator.validate(alloc, bytes) {
@@ -74,7 +89,7 @@ pub extern "C" fn ruthvelka_proved_validator_validate(
     }
 }
 
-/// Tells of the answer on a module, and keeps its types.
+/// Tells of the answer on a module, and keeps its types behind the handle, which holds nothing.
 fn tell_answer(
     alloc: Global,
     answer: Answer,
@@ -82,6 +97,9 @@ fn tell_answer(
     report: &mut Report,
     types: &mut Handle,
 ) -> u32
+    requires { types.old.value ≡ Nothing }
+    ensures told { TellsAnswer answer report.new types.new.value result }
+    ensures message { HasText report.new.message_length message.old message.new }
 {
     let message_length = write_message(alloc, &answer, message);
     *report = report_of(&answer, message_length);
@@ -93,11 +111,13 @@ fn tell_answer(
                 STATUS_NO_MEMORY
             }
         },
-        Err(error) => refusal_status(&error),
+        Err(error) => error_status(&error),
     }
 }
 
-fn refusal_status(error: &Error) -> u32 {
+fn error_status(error: &Error) -> u32
+    ensures { result ≡ error_status error.now }
+{
     match error {
         Error::OutOfMemory => STATUS_NO_MEMORY,
         Error::Refused(_) => STATUS_REFUSED,
@@ -109,7 +129,9 @@ fn refusal_status(error: &Error) -> u32 {
     }
 }
 
-fn status_of(why: NotAsked) -> u32 {
+fn status_of(why: NotAsked) -> u32
+    ensures { result ≡ refusal_status why }
+{
     match why {
         NotAsked::NoValidator => STATUS_WRONG,
         NotAsked::HasFailed => STATUS_FAILED,
@@ -118,7 +140,9 @@ fn status_of(why: NotAsked) -> u32 {
 
 /// Makes the validator behind the handle ready for its next module. Its types keep their ids.
 #[unsafe(no_mangle)]
-pub extern "C" fn ruthvelka_proved_validator_reset(alloc: Global, validator: &mut Handle) -> u32 {
+pub extern "C" fn ruthvelka_proved_validator_reset(alloc: Global, validator: &mut Handle) -> u32
+    ensures { TellsReset validator.old.value validator.new.value result }
+{
     match validator.reset(alloc) {
         Ok(()) => STATUS_DONE,
         Err(why) => status_of(why),
@@ -132,6 +156,14 @@ pub extern "C" fn ruthvelka_proved_types_retain(
     types: &mut Handle,
     copy: &mut Handle,
 ) -> u32
+    ensures kept { types.new.value ≡ types.old.value }
+    ensures shared { result ≡ STATUS_DONE
+        → AreTypes (types_of types.old.value) (types_of copy.new.value) }
+    ensures refused { result ≡ STATUS_NO_MEMORY → copy.new.value ≡ copy.old.value }
+    ensures wrong { result ≡ STATUS_WRONG
+        → (types_of types.old.value ≡ Nothing) × (copy.new.value ≡ copy.old.value) }
+    ensures known { (result ≡ STATUS_DONE) ⊎ (result ≡ STATUS_NO_MEMORY)
+        ⊎ (result ≡ STATUS_WRONG) }
 {
     match types.share(alloc) {
         Some(Ok(kept)) => match copy.hold(alloc, kept) {
@@ -153,6 +185,9 @@ pub extern "C" fn ruthvelka_proved_types_ids(
     type_ids: &mut [u32],
     function_ids: &mut [u32],
 ) -> u32
+    ensures kept { types.new.value ≡ types.old.value }
+    ensures told { TellsIds (types_of types.old.value) report.old report.new type_ids.old
+        type_ids.new function_ids.old function_ids.new result }
 {
     let Some(it) = types.open(alloc) else {
         return STATUS_WRONG;
@@ -168,6 +203,8 @@ fn tell_ids(
     type_ids: &mut [u32],
     function_ids: &mut [u32],
 ) -> u32
+    ensures { TellsIds (types_of (Just kept.now)) report.old report.new type_ids.old type_ids.new
+        function_ids.old function_ids.new result }
 {
     match kept.types() {
         Some(types) => {
@@ -189,6 +226,8 @@ pub extern "C" fn ruthvelka_proved_types_is_subtype(
     first: u32,
     second: u32,
 ) -> u32
+    ensures kept { types.new.value ≡ types.old.value }
+    ensures says { SaysSubtype (types_of types.old.value) first second result }
 {
     let Some(it) = types.open(alloc) else {
         return STATUS_WRONG;
@@ -198,7 +237,9 @@ pub extern "C" fn ruthvelka_proved_types_is_subtype(
     answer
 }
 
-fn say_subtype(kept: &Kept, first: u32, second: u32) -> u32 {
+fn say_subtype(kept: &Kept, first: u32, second: u32) -> u32
+    ensures { SaysSubtype (types_of (Just kept.now)) first second result }
+{
     match kept.types() {
         Some(types) => judge_below(
             types.as_ref().type_list(),
@@ -219,6 +260,10 @@ pub extern "C" fn ruthvelka_proved_types_may_be_given(
     importer: &mut Handle,
     imported: u32,
 ) -> u32
+    ensures exporter { exporter.new.value ≡ exporter.old.value }
+    ensures importer { importer.new.value ≡ importer.old.value }
+    ensures says { SaysLinked (types_of exporter.old.value) exported (types_of importer.old.value)
+        imported result }
 {
     let Some(first) = exporter.open(alloc) else {
         return STATUS_WRONG;
@@ -233,29 +278,44 @@ pub extern "C" fn ruthvelka_proved_types_may_be_given(
     answer
 }
 
-fn say_between(first: &Kept, exported: u32, second: &Kept, imported: u32) -> u32 {
+fn say_between(first: &Kept, exported: u32, second: &Kept, imported: u32) -> u32
+    ensures { SaysLinked (types_of (Just first.now)) exported (types_of (Just second.now)) imported
+        result }
+{
     match first.types() {
         Some(exporter) => match second.types() {
-            Some(importer) => say_linked(&exporter.as_ref(), exported, &importer.as_ref(), imported),
+            Some(importer) => say_linked(exporter, exported, importer, imported),
             None => STATUS_WRONG,
         },
         None => STATUS_WRONG,
     }
 }
 
-fn say_linked(exporter: &TypesRef<'_>, exported: u32, importer: &TypesRef<'_>, imported: u32) -> u32
+fn say_linked(exporter: &Types, exported: u32, importer: &Types, imported: u32) -> u32
+    ensures { SaysLinked (Just exporter.now) exported (Just importer.now) imported result }
 {
-    if exporter.id() != importer.id() {
-        return STATUS_WRONG;
+    let first = exporter.as_ref();
+    let second = importer.as_ref();
+    if are_one(first.id(), second.id()) {
+        say_given(
+            nth_export(&first, exported),
+            nth_import(&second, imported),
+            Some(longer(first.type_list(), second.type_list())),
+        )
+    } else {
+        STATUS_WRONG
     }
-    say_given(
-        nth_export(exporter, exported),
-        nth_import(importer, imported),
-        Some(longer(exporter.type_list(), importer.type_list())),
-    )
+}
+
+fn are_one(first: ValidatorId, second: ValidatorId) -> bool
+    ensures { Decides result (first ≡ second) }
+{
+    first == second
 }
 
 /// The list with more types, which has those of both where one begins the other.
-fn longer<'a>(first: &'a TypeList, second: &'a TypeList) -> &'a TypeList {
+fn longer<'a>(first: &'a TypeList, second: &'a TypeList) -> &'a TypeList
+    ensures { result.now ≡ longer first.now second.now }
+{
     if first.len() < second.len() { second } else { first }
 }

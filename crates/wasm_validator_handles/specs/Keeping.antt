@@ -1,5 +1,5 @@
 -- What stands behind a handle, and what is done to it, as callers see it.
-use Rattle.std.specs.Prelude.{ℕ, ◌≡◌, true, false, List, Option, Some, None, ⊤}
+use Rattle.std.specs.Prelude.{ℕ, ◌≡◌, true, false, List, Option, Some, None, IsSome}
 use Rattle.std.specs.declared.alloc.Global.{Global}
 use Rattle.std.specs.declared.result.Result.{Result}
 use Rattle.std.specs.declared.result.Result.TheVariants.{Ok, Err}
@@ -50,8 +50,13 @@ Resets result (Some (Validator v)) None = ⊥
 Resets result (Some (Types t)) new = (result ≡ Err NoValidator) × (new ≡ Some (Types t))
 Resets result None new = (result ≡ Err NoValidator) × (new ≡ None)
 
--- the same types once more, unless there are none, or no more may share them
+-- there are types, and these are they
+abbrev pub AreTypes : Option (shown.Types Global) → Option (shown.Types Global) → Type 0
+AreTypes (Some t) copy = copy ≡ Some t
+AreTypes None copy = ⊥
+
+-- the same types once more, if there are some, unless no more may share them
 abbrev pub Shares : {X : Type 0} → Option (Result Kept X) → Option Kept → Type 0
-Shares (Some (Ok copy)) held = types_of (Some copy) ≡ types_of held
-Shares (Some (Err e)) held = ⊤
+Shares (Some (Ok copy)) held = AreTypes (types_of held) (types_of (Some copy))
+Shares (Some (Err e)) held = IsSome (types_of held)
 Shares None held = types_of held ≡ None
