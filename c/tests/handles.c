@@ -119,7 +119,9 @@ static void try_wrong_handles(void) {
                 && outcome.status == WRONG && !outcome.types && outcome.function == NOWHERE);
             expect("reset", ruthvelka_validator_reset(validators[it]) == WRONG);
             expect("retain", ruthvelka_types_retain(both[it], &held) == WRONG && is_nothing(&held));
-            expect("ids", ruthvelka_types_ids(both[it], &outcome, NULL, 0, NULL, 0) == WRONG && outcome.status == WRONG);
+            outcome.status = DONE, outcome.types = 3, outcome.function = 5, outcome.offset = 7;
+            expect("ids", ruthvelka_types_ids(both[it], &outcome, NULL, 0, NULL, 0) == WRONG && outcome.status == WRONG && !outcome.types
+                && outcome.function == NOWHERE && !outcome.offset);
             expect("subtype", !ruthvelka_types_is_subtype(both[it], 0, 0));
             expect("given", !ruthvelka_types_entity_may_be_given(both[it], 0, &held, 0) && !ruthvelka_types_entity_may_be_given(&held, 0, both[it], 0));
             ruthvelka_types_release(both[it]), ruthvelka_validator_free(validators[it]);
@@ -135,12 +137,13 @@ static void try_wrong_handles(void) {
     expect("no place", ruthvelka_validator_new(NULL, STANDARD, NULL) == WRONG);
 }
 
-/* Ids of one validator say nothing of those of another. */
+/* Ids of one validator say nothing of those of another, also where both have validated the same modules. */
 static void try_two_validators(void) {
     struct ruthvelka_validator one = NOTHING, other = NOTHING;
     struct ruthvelka_types types = NOTHING, others = NOTHING;
     expect("two validators", ruthvelka_validator_new(&one, STANDARD, NULL) == DONE && ruthvelka_validator_new(&other, STANDARD, NULL) == DONE);
     ruthvelka_validator_validate(&one, many, sizeof many, NULL, 0, NULL, &types);
+    ruthvelka_validator_validate(&other, many, sizeof many, NULL, 0, NULL, NULL);
     ruthvelka_validator_validate(&other, user, sizeof user, NULL, 0, NULL, &others);
     expect("modules of two validators", !ruthvelka_types_entity_may_be_given(&types, 0, &others, 0));
     ruthvelka_types_release(&others);
