@@ -85,6 +85,6 @@ abbrev pub SaysLinked : Option (shown.Types Global) → ℕ → Option (shown.Ty
 SaysLinked (Some t) exported (Some u) imported answer =
     (((shown_of t).id ≢ (shown_of u).id) × (answer ≡ STATUS_WRONG))
     ⊎ (((shown_of t).id ≡ (shown_of u).id)
-       × Says MayBeGiven (exported_at (Some t) exported) (imported_at (Some u) imported) (Some (longer (shown_of t).list (shown_of u).list)) answer)
+    × Says MayBeGiven (exported_at (Some t) exported) (imported_at (Some u) imported) (Some (longer (shown_of t).list (shown_of u).list)) answer)
 SaysLinked (Some t) exported None imported answer = answer ≡ STATUS_WRONG
 SaysLinked None exported u imported answer = answer ≡ STATUS_WRONG

@@ -11,7 +11,9 @@ use crate::arrays::{write_function_ids, write_type_ids};
 use crate::lists::{Bytes, lend};
 use crate::report::Answer;
 use std::alloc::{AllocError, Global};
-use wasm_validator_handles::validator::{Flags, Validator, ValidatorId, WasmFeatures, validate_list};
+use wasm_validator_handles::validator::{
+    Flags, Validator, ValidatorId, WasmFeatures, validate_list,
+};
 
 /// What a new validator with these proposals answers on these bytes.
 pub fn answer_alone(alloc: Global, bytes: &[u8], features: u64) -> Answer

@@ -46,12 +46,18 @@ pub extern "C" fn ruthvelka_proved_validator_new(
     ensures refused { result ≡ STATUS_NO_MEMORY → validator.new.value ≡ validator.old.value }
     ensures known { (result ≡ STATUS_DONE) ⊎ (result ≡ STATUS_NO_MEMORY) }
 {
-    let features = WasmFeatures::from_bits_retain(features);
-    let made = Validator::new_with_features(alloc, features, ValidatorId::from_number(number));
+    let made = new_validator(alloc, features, number);
     match validator.hold(alloc, Kept::Validator(made)) {
         Ok(()) => STATUS_DONE,
         Err(_) => STATUS_NO_MEMORY,
     }
+}
+
+fn new_validator(alloc: Global, features: u64, number: usize) -> Validator
+    ensures { result ≡ fresh number (flags features) }
+{
+    let features = WasmFeatures::from_bits_retain(features);
+    Validator::new_with_features(alloc, features, ValidatorId::from_number(number))
 }
 
 /// Lets go what stands behind the handle, and leaves nothing there.
@@ -197,12 +203,7 @@ pub extern "C" fn ruthvelka_proved_types_ids(
     status
 }
 
-fn tell_ids(
-    kept: &Kept,
-    report: &mut Report,
-    type_ids: &mut [u32],
-    function_ids: &mut [u32],
-) -> u32
+fn tell_ids(kept: &Kept, report: &mut Report, type_ids: &mut [u32], function_ids: &mut [u32]) -> u32
     ensures { TellsIds (types_of (Just kept.now)) report.old report.new type_ids.old type_ids.new
         function_ids.old function_ids.new result }
 {
@@ -317,5 +318,9 @@ fn are_one(first: ValidatorId, second: ValidatorId) -> bool
 fn longer<'a>(first: &'a TypeList, second: &'a TypeList) -> &'a TypeList
     ensures { result.now ≡ longer first.now second.now }
 {
-    if first.len() < second.len() { second } else { first }
+    if first.len() < second.len() {
+        second
+    } else {
+        first
+    }
 }

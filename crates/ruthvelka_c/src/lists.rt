@@ -40,7 +40,8 @@ fn report_at(answers: &[Answer], place: usize) -> Report
 
 /// The report on a module that was not looked at.
 pub fn not_checked() -> Report
-    ensures { result.verdict ≡ NOT_CHECKED }
+    ensures verdict { result.verdict ≡ NOT_CHECKED }
+    ensures message { result.message_length ≡ 0 }
 {
     Report {
         offset: 0,

@@ -106,7 +106,11 @@ fn say_below(first: Option<CoreTypeId>, second: Option<CoreTypeId>, list: Option
     }
 }
 
-pub fn say_given(first: Option<EntityType>, second: Option<EntityType>, list: Option<&TypeList>) -> u32
+pub fn say_given(
+    first: Option<EntityType>,
+    second: Option<EntityType>,
+    list: Option<&TypeList>,
+) -> u32
     ensures { Says MayBeGiven (option_map entity_of first) (option_map entity_of second)
         (option_map (λ list. list.now) list.entry) result }
 {

@@ -11,15 +11,8 @@ pub use kept::{Answer, Kept, NotAsked};
 
 /// The validator's items that a caller of this crate needs beside it.
 pub mod validator {
-    pub use wasm_validator::CoreTypeId;
-    pub use wasm_validator::EntityType;
-    pub use wasm_validator::Error;
-    pub use wasm_validator::Flags;
-    pub use wasm_validator::TypeList;
-    pub use wasm_validator::Types;
-    pub use wasm_validator::TypesRef;
-    pub use wasm_validator::Validator;
-    pub use wasm_validator::ValidatorId;
-    pub use wasm_validator::WasmFeatures;
-    pub use wasm_validator::validate_list;
+    pub use wasm_validator::{
+        CoreTypeId, EntityType, Error, Flags, TypeList, Types, TypesRef, Validator, ValidatorId,
+        WasmFeatures, validate_list,
+    };
 }
