@@ -4,6 +4,11 @@
 
 #include <string.h>
 
+/* A value type, as the proved part has it. */
+struct ruthvelka_proved_value_type {
+    uint32_t kind, heap, id;
+};
+
 /* The proved calls (crates/ruthvelka_c, most of them in handles.rt). A handle is the place of a pointer. */
 uint32_t ruthvelka_proved_validate(const uint8_t *bytes, size_t length, uint64_t features, uint8_t *message, size_t message_room,
     struct ruthvelka_report *report);
@@ -15,6 +20,8 @@ uint32_t ruthvelka_proved_types_retain(void **types, void **copy);
 uint32_t ruthvelka_proved_types_ids(void **types, struct ruthvelka_report *report, uint32_t *type_ids, size_t type_room, uint32_t *function_ids,
     size_t function_room);
 uint32_t ruthvelka_proved_types_is_subtype(void **types, uint32_t first, uint32_t second);
+uint32_t ruthvelka_proved_types_matches(void **types, const struct ruthvelka_proved_value_type *first,
+    const struct ruthvelka_proved_value_type *second);
 uint32_t ruthvelka_proved_types_may_be_given(void **exporter, uint32_t exported, void **importer, uint32_t imported);
 void ruthvelka_proved_handle_free(void **handle);
 
@@ -151,6 +158,17 @@ uint32_t ruthvelka_types_ids(struct ruthvelka_types *types, struct ruthvelka_out
 
 uint32_t ruthvelka_types_is_subtype(struct ruthvelka_types *types, uint32_t first, uint32_t second) {
     return types && ruthvelka_proved_types_is_subtype(&types->words[PLACE], first, second) == RUTHVELKA_YES;
+}
+
+static bool is_value_type(const struct ruthvelka_value_type *it) {
+    return it && it->size >= offsetof(struct ruthvelka_value_type, id) + sizeof it->id;
+}
+
+uint32_t ruthvelka_types_matches(struct ruthvelka_types *types, const struct ruthvelka_value_type *first,
+    const struct ruthvelka_value_type *second) {
+    if (!types || !is_value_type(first) || !is_value_type(second)) return RUTHVELKA_NO;
+    const struct ruthvelka_proved_value_type a = {first->kind, first->heap, first->id}, b = {second->kind, second->heap, second->id};
+    return ruthvelka_proved_types_matches(&types->words[PLACE], &a, &b) == RUTHVELKA_YES;
 }
 
 uint32_t ruthvelka_types_entity_may_be_given(struct ruthvelka_types *exporter, uint32_t exported, struct ruthvelka_types *importer,

@@ -356,6 +356,54 @@ uint32_t ruthvelka_types_ids(struct ruthvelka_types *types, struct ruthvelka_out
        if (ruthvelka_types_is_subtype(&types, given[i], wanted[j]) == RUTHVELKA_YES) call(i, j); */
 uint32_t ruthvelka_types_is_subtype(struct ruthvelka_types *types, uint32_t first, uint32_t second);
 
+/* The kinds of value types, and the abstract heap types that a reference may be to, by their
+   numbers in the binary format. */
+#define RUTHVELKA_I32 0x7f
+#define RUTHVELKA_I64 0x7e
+#define RUTHVELKA_F32 0x7d
+#define RUTHVELKA_F64 0x7c
+#define RUTHVELKA_V128 0x7b
+#define RUTHVELKA_REFERENCE 0x64         /* a reference that isn't null */
+#define RUTHVELKA_NULL_OR_REFERENCE 0x63 /* one that may be */
+#define RUTHVELKA_HEAP_FUNC 0x70
+#define RUTHVELKA_HEAP_EXTERN 0x6f
+#define RUTHVELKA_HEAP_ANY 0x6e
+#define RUTHVELKA_HEAP_EQ 0x6d
+#define RUTHVELKA_HEAP_I31 0x6c
+#define RUTHVELKA_HEAP_STRUCT 0x6b
+#define RUTHVELKA_HEAP_ARRAY 0x6a
+#define RUTHVELKA_HEAP_EXN 0x69
+#define RUTHVELKA_HEAP_CONT 0x68
+#define RUTHVELKA_HEAP_NONE 0x71
+#define RUTHVELKA_HEAP_NOEXTERN 0x72
+#define RUTHVELKA_HEAP_NOFUNC 0x73
+#define RUTHVELKA_HEAP_NOEXN 0x74
+#define RUTHVELKA_HEAP_NOCONT 0x75
+#define RUTHVELKA_HEAP_ID 0 /* no abstract heap type: a type by its id */
+
+/* A value type. Types that are shared between threads, and exact ones, can't be written so. */
+struct ruthvelka_value_type {
+    uint64_t size; /* given: sizeof(struct ruthvelka_value_type) */
+    uint32_t kind; /* RUTHVELKA_I32 and so on */
+    uint32_t heap; /* of a reference: what it is to */
+    uint32_t id;   /* of a reference to a type by its id: the id */
+};
+
+/* ruthvelka_types_matches: whether the first value type matches the second one (Validation,
+   Matching, Value Types), so that a value of the first may stand where one of the second is wanted.
+
+   Result: RUTHVELKA_YES where this is so; RUTHVELKA_NO everywhere else, also where one of the two
+   is null, is none, has a size that ends before its id does or an id that these types don't know,
+   or the handle holds none. Threads: the validator's.
+
+       struct ruthvelka_value_type given = {sizeof given, RUTHVELKA_REFERENCE,
+           RUTHVELKA_HEAP_ID, id};
+       struct ruthvelka_value_type wanted = {sizeof wanted, RUTHVELKA_NULL_OR_REFERENCE,
+           RUTHVELKA_HEAP_FUNC, 0};
+       if (ruthvelka_types_matches(&types, &given, &wanted) == RUTHVELKA_YES) store(); */
+uint32_t ruthvelka_types_matches(struct ruthvelka_types *types,
+    const struct ruthvelka_value_type *first, const struct ruthvelka_value_type *second);
+
 /* ruthvelka_types_entity_may_be_given: whether export number `exported` of the first module may be
    given where import number `imported` of the second one asks for something: whether its external
    type matches that of the import (Validation, Matching, External Types): functions by declared

@@ -76,6 +76,12 @@ uint32_t ruthvelka_proved_types_is_subtype(void **types, uint32_t first, uint32_
     return status;
 }
 
+uint32_t ruthvelka_proved_types_matches(void **types, const uint32_t *first, const uint32_t *second) {
+    passed = (struct passed){"matches", {types}, {0}, {NULL}, {first[0], first[1], first[2], second[0]}};
+    passed.numbers[0] = second[1], passed.numbers[1] = second[2];
+    return status;
+}
+
 uint32_t ruthvelka_proved_types_may_be_given(void **exporter, uint32_t exported, void **importer, uint32_t imported) {
     passed = (struct passed){"may_be_given", {exporter, importer}, {exported, imported}, {NULL}, {0}};
     return status;
@@ -127,6 +133,11 @@ static void try_wrong(void) {
     EXPECT_KEPT(ruthvelka_types_ids(&types, &outcome, type_ids, 4, function_ids, TOO_MANY(4)));
     passed.name = NULL;
     expect("a full copy", ruthvelka_types_retain(&types, &others) == WRONG && ruthvelka_types_retain(&types, &types) == WRONG);
+    status = RUTHVELKA_YES;
+    const struct ruthvelka_value_type value = {sizeof value, RUTHVELKA_I32, 0, 0}, small = {.size = 19, .kind = RUTHVELKA_I32};
+    expect("value types", !ruthvelka_types_matches(NULL, &value, &value) && !ruthvelka_types_matches(&types, NULL, &value)
+        && !ruthvelka_types_matches(&types, &value, NULL) && !ruthvelka_types_matches(&types, &small, &value)
+        && !ruthvelka_types_matches(&types, &value, &small) && !passed.name);
     expect("questions", !ruthvelka_types_is_subtype(NULL, 0, 0) && !ruthvelka_types_entity_may_be_given(&types, 0, &types, 0)
         && !ruthvelka_types_entity_may_be_given(NULL, 0, &types, 0) && !ruthvelka_types_entity_may_be_given(&types, 0, NULL, 0) && !passed.name);
 }
@@ -184,6 +195,9 @@ static void try_types(void) {
     expect("null pointers of ids", ruthvelka_types_ids(&types, NULL, NULL, 0, NULL, 0) == DONE && passed.places[0] && passed.places[1]);
     for (status = 0; status < 22; status++) {
         expect("below", ruthvelka_types_is_subtype(&types, 3, 4) == (status == 1) && passed.numbers[0] == 3 && passed.numbers[1] == 4);
+        const struct ruthvelka_value_type first = {.size = 20, .kind = 11, .heap = 12, .id = 13}, second = {sizeof second, 14, 15, 16};
+        expect("matches", ruthvelka_types_matches(&types, &first, &second) == (status == 1) && passed.handles[0] == &types && passed.counts[0] == 11
+            && passed.counts[1] == 12 && passed.counts[2] == 13 && passed.counts[3] == 14 && passed.numbers[0] == 15 && passed.numbers[1] == 16);
         expect("given", ruthvelka_types_entity_may_be_given(&types, 5, &others, 6) == (status == 1) && passed.numbers[0] == 5 && passed.numbers[1] == 6
             && passed.handles[0] == &types && passed.handles[1] == &others);
     }

@@ -49,6 +49,30 @@ static void try_ids(struct ruthvelka_types *many_types, struct ruthvelka_types *
             expect("subtyping by ids", ruthvelka_types_is_subtype(user_types, a, b) == ((a == b && a < 6) || (a == 5 && b == 4)));
 }
 
+/* Whether a value type of these numbers matches one of those. */
+static int matches(struct ruthvelka_types *types, uint32_t kind, uint32_t heap, uint32_t id, uint32_t other_kind, uint32_t other_heap, uint32_t other_id) {
+    const struct ruthvelka_value_type first = {sizeof first, kind, heap, id}, second = {sizeof second, other_kind, other_heap, other_id};
+    return (int)ruthvelka_types_matches(types, &first, &second);
+}
+
+/* Numbers and vectors match themselves alone; references by what they are to, and by whether they may be null. */
+static void try_values(struct ruthvelka_types *types) {
+    for (uint32_t a = 0x5f; a < 0x81; a++)
+        for (uint32_t b = 0x5f; b < 0x81; b++) {
+            const int is_plain = a == b && a >= 0x7b && a <= 0x7f, are_references = a >= 0x63 && a <= 0x64 && b >= 0x63 && b <= 0x64;
+            expect("values", matches(types, a, 0, 5, b, 0, 4) == (is_plain || (are_references && a >= b)));
+            expect("values of no types", matches(types, a, 0, 6, b, 0, 6) == is_plain);
+        }
+    for (uint32_t heap = 0x60; heap < 0x80; heap++) {
+        const int is_one = heap >= 0x68 && heap <= 0x75;
+        expect("a heap type matches itself", matches(types, 0x64, heap, 0, 0x63, heap, 9) == is_one);
+        expect("a type matches that of functions", matches(types, 0x64, 0, 5, 0x63, heap, 0) == (heap == 0x70));
+        expect("nothing below functions matches a type", matches(types, 0x64, heap, 0, 0x63, 0, 5) == (heap == 0x73));
+        expect("what can be taken apart", matches(types, 0x63, heap, 0, 0x63, 0x6e, 0) == ((heap >= 0x6a && heap <= 0x6e) || heap == 0x71));
+    }
+    expect("no id is so large", !matches(types, 0x64, 0, 1048576, 0x64, 0, 1048576) && !matches(types, 0x64, 0, UINT32_MAX, 0x64, 0, UINT32_MAX));
+}
+
 /* Of the exports of `many` these may be given for the imports of `user`: a function of [] -> [], one of [] -> [i32], and a memory of one page. */
 static void try_links(struct ruthvelka_types *many_types, struct ruthvelka_types *user_types) {
     for (uint32_t exported = 0; exported < 11; exported++)
@@ -96,6 +120,7 @@ static void try_modules(const struct ruthvelka_allocator *allocator) {
     expect("user", ruthvelka_validator_validate(&validator, user, sizeof user, NULL, 0, NULL, &user_types) == VALID);
     try_ids(&many_types, &user_types);
     try_links(&many_types, &user_types);
+    try_values(&user_types);
     expect("no types are asked for", ruthvelka_validator_validate(&validator, user, sizeof user, NULL, 0, NULL, NULL) == VALID);
     try_refusals(&validator, &user_types);
     expect("a copy", ruthvelka_types_retain(&user_types, &copy) == DONE);
@@ -122,7 +147,7 @@ static void try_wrong_handles(void) {
             outcome.status = DONE, outcome.types = 3, outcome.function = 5, outcome.offset = 7;
             expect("ids", ruthvelka_types_ids(both[it], &outcome, NULL, 0, NULL, 0) == WRONG && outcome.status == WRONG && !outcome.types
                 && outcome.function == NOWHERE && !outcome.offset);
-            expect("subtype", !ruthvelka_types_is_subtype(both[it], 0, 0));
+            expect("subtype", !ruthvelka_types_is_subtype(both[it], 0, 0) && !matches(both[it], 0x7f, 0, 0, 0x7f, 0, 0));
             expect("given", !ruthvelka_types_entity_may_be_given(both[it], 0, &held, 0) && !ruthvelka_types_entity_may_be_given(&held, 0, both[it], 0));
             ruthvelka_types_release(both[it]), ruthvelka_validator_free(validators[it]);
         }

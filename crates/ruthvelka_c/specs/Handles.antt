@@ -17,7 +17,9 @@ use Rattle.wasm_validator_handles.specs.WasmValidator.WasmValidatorTypes.declare
 use Rattle.wasm_validator_handles.specs.WasmValidator.WasmValidatorTypes.WasmValidatorTypeList.Listing.{Listing, types_in}
 use Rattle.ruthvelka_c.specs.declared.report.Report.{Report}
 use Rattle.ruthvelka_c.specs.declared.handles.TheConstants.{STATUS_DONE, STATUS_VALID, STATUS_REFUSED, STATUS_NO_MEMORY, STATUS_FAILED, STATUS_WRONG}
+use Rattle.ruthvelka_c.specs.declared.values.ValueType.{ValueType}
 use Rattle.ruthvelka_c.specs.Answers.{Answer}
+use Rattle.ruthvelka_c.specs.Values.{TellsMatch}
 use Rattle.ruthvelka_c.specs.Queries.{IsBelow, IsSaid, MayBeGiven, Says, exported_at, imported_at}
 use Rattle.ruthvelka_c.specs.Reports.{IdsAreWritten, IdsStay, Tells, TellsCounts}
 
@@ -75,6 +77,11 @@ TellsIds None r0 r1 t0 t1 f0 f1 status = (status ≡ STATUS_WRONG) × (r1 ≡ r0
 abbrev pub SaysSubtype : Option (shown.Types Global) → ℕ → ℕ → ℕ → Type 0
 SaysSubtype (Some t) first second answer = IsSaid answer (IsBelow (shown_of t).list first second)
 SaysSubtype None first second answer = answer ≡ STATUS_WRONG
+
+-- whether the first value type matches the second one in their list
+abbrev pub SaysMatching : Option (shown.Types Global) → ValueType → ValueType → ℕ → Type 0
+SaysMatching (Some t) first second answer = TellsMatch (shown_of t).list first second answer
+SaysMatching None first second answer = answer ≡ STATUS_WRONG
 
 -- the list with more types, which has those of both where one begins the other
 abbrev pub longer : Listing Global → Listing Global → Listing Global

@@ -5,4 +5,5 @@ pub mod Externs
 pub mod Queries
 pub mod Lists
 pub mod Names
+pub mod Values
 pub mod Handles

@@ -7,13 +7,14 @@ ghost use Rattle.wasm_validator_handles.specs.Keeping.{AreTypes, Answers, types_
 ghost use Rattle.wasm_validator_handles.specs.WasmValidator.Standing.{fresh};
 ghost use Rattle.wasm_validator_handles.specs.WasmValidator.WasmValidatorTypes.Shown.{shown_by};
 ghost use Rattle.ruthvelka_c.specs.Arrays.{HasText};
-ghost use Rattle.ruthvelka_c.specs.Handles.{AreModuleHere, SaysLinked, SaysSubtype, TellsAnswer, TellsIds, TellsOn, TellsReset, error_status, longer, refusal_status};
+ghost use Rattle.ruthvelka_c.specs.Handles.{AreModuleHere, SaysLinked, SaysMatching, SaysSubtype, TellsAnswer, TellsIds, TellsOn, TellsReset, error_status, longer, refusal_status};
 ghost use Rattle.ruthvelka_c.specs.Reports.{flags};
 
 use crate::arrays::{write_function_ids, write_type_ids};
 use crate::lists::not_checked;
 use crate::queries::{judge_below, nth_export, nth_import, say_given};
 use crate::report::{Answer, Report, report_counts, report_of, report_refusal, write_message};
+use crate::values::{ValueType, tell_match};
 use std::alloc::Global;
 use wasm_validator_handles::validator::{
     CoreTypeId, Error, Flags, TypeList, Types, Validator, ValidatorId, WasmFeatures,
@@ -247,6 +248,34 @@ fn say_subtype(kept: &Kept, first: u32, second: u32) -> u32
             CoreTypeId::from_index(first),
             CoreTypeId::from_index(second),
         ),
+        None => STATUS_WRONG,
+    }
+}
+
+/// Whether the first value type matches the second one.
+#[unsafe(no_mangle)]
+pub extern "C" fn ruthvelka_proved_types_matches(
+    alloc: Global,
+    types: &mut Handle,
+    first: &ValueType,
+    second: &ValueType,
+) -> u32
+    ensures kept { types.new.value ≡ types.old.value }
+    ensures says { SaysMatching (types_of types.old.value) first.now second.now result }
+{
+    let Some(it) = types.open(alloc) else {
+        return STATUS_WRONG;
+    };
+    let answer = say_matching(it.as_ref(), *first, *second);
+    types.close(it);
+    answer
+}
+
+fn say_matching(kept: &Kept, first: ValueType, second: ValueType) -> u32
+    ensures { SaysMatching (types_of (Just kept.now)) first second result }
+{
+    match kept.types() {
+        Some(types) => tell_match(types.as_ref().type_list(), first, second),
         None => STATUS_WRONG,
     }
 }

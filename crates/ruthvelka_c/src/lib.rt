@@ -19,6 +19,7 @@ mod lists;
 mod names;
 mod queries;
 mod report;
+mod values;
 
 use answers::{answer_alone, answer_list, write_ids};
 use arrays::write_numbers;
@@ -35,6 +36,7 @@ pub use queries::{IS_SUBTYPE, MAY_BE_GIVEN, NO, Query, UNKNOWN, YES};
 use report::{report_no_memory, report_of, report_with_names, write_message};
 pub use report::{NO_FUNCTION, NO_MEMORY, NOT_CHECKED, REFUSED, Report, VALID};
 use std::alloc::Global;
+pub use values::{TYPE_BY_ID, ValueType};
 use wasm_validator_handles::validator::{Flags, WasmFeatures};
 
 /// The version of the library, as major · 1,000,000 + minor · 1,000 + patch.

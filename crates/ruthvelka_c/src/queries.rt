@@ -138,7 +138,7 @@ fn judge_given(list: &TypeList, first: EntityType, second: EntityType) -> u32
     say(may_be_given(list, first, second))
 }
 
-fn say(yes: bool) -> u32
+pub fn say(yes: bool) -> u32
     ensures { result ≡ (if yes then YES else NO) }
 {
     if yes { YES } else { NO }

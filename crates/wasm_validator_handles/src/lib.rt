@@ -12,7 +12,7 @@ pub use kept::{Answer, Kept, NotAsked};
 /// The validator's items that a caller of this crate needs beside it.
 pub mod validator {
     pub use wasm_validator::{
-        CoreTypeId, EntityType, Error, Flags, TypeList, Types, TypesRef, Validator, ValidatorId,
-        WasmFeatures, validate_list,
+        AbstractHeapType, CoreTypeId, EntityType, Error, Flags, HeapType, RefType, TypeList, Types,
+        TypesRef, UnpackedIndex, ValType, Validator, ValidatorId, WasmFeatures, validate_list,
     };
 }
