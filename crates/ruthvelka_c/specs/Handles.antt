@@ -1,5 +1,5 @@
 -- What is told of a validator, and of the types of a module, behind a handle.
-use Rattle.std.specs.Prelude.{ℕ, ◌≡◌, ◌≢◌, ◌⊎◌, if◌then◌else◌, nat_lt, List, length, Option, Some, None}
+use Rattle.std.specs.Prelude.{ℕ, ◌≡◌, ◌≢◌, ◌⊎◌, if◌then◌else◌, Bool, List, Option, Some, None}
 use Rattle.std.specs.declared.alloc.Global.{Global}
 use Rattle.std.specs.declared.result.Result.{Result}
 use Rattle.std.specs.declared.result.Result.TheVariants.{Ok, Err}
@@ -14,12 +14,13 @@ use Rattle.wasm_validator_handles.specs.WasmValidator.WasmValidatorCore.declared
 use Rattle.wasm_validator_handles.specs.WasmValidator.WasmValidatorCore.declared.error.Error.TheVariants.{Refused, DuplicateExport, InFunction, OutOfMemory}
 use Rattle.wasm_validator_handles.specs.WasmValidator.WasmValidatorTypes.Shown.{shown_of}
 use Rattle.wasm_validator_handles.specs.WasmValidator.WasmValidatorTypes.declared.shown.Types as shown
-use Rattle.wasm_validator_handles.specs.WasmValidator.WasmValidatorTypes.WasmValidatorTypeList.Listing.{Listing, types_in}
 use Rattle.ruthvelka_c.specs.declared.report.Report.{Report}
 use Rattle.ruthvelka_c.specs.declared.handles.TheConstants.{STATUS_DONE, STATUS_VALID, STATUS_REFUSED, STATUS_NO_MEMORY, STATUS_FAILED, STATUS_WRONG}
-use Rattle.ruthvelka_c.specs.declared.values.ValueType.{ValueType}
+use Rattle.wasm_validator_handles.specs.declared.values.ValueType.{ValueType}
+use Rattle.ruthvelka_c.specs.declared.queries.TheConstants.{YES, NO, UNKNOWN}
 use Rattle.ruthvelka_c.specs.Answers.{Answer}
-use Rattle.ruthvelka_c.specs.Values.{TellsMatch}
+use Rattle.wasm_validator_handles.specs.Pairs.{longer}
+use Rattle.wasm_validator_handles.specs.Values.{TellsMatch}
 use Rattle.ruthvelka_c.specs.Queries.{IsBelow, IsSaid, MayBeGiven, Says, exported_at, imported_at}
 use Rattle.ruthvelka_c.specs.Reports.{IdsAreWritten, IdsStay, Tells, TellsCounts}
 
@@ -78,14 +79,15 @@ abbrev pub SaysSubtype : Option (shown.Types Global) → ℕ → ℕ → ℕ →
 SaysSubtype (Some t) first second answer = IsSaid answer (IsBelow (shown_of t).list first second)
 SaysSubtype None first second answer = answer ≡ STATUS_WRONG
 
+-- an answer in C: that there is none, or yes or no
+abbrev pub answer_of : Option Bool → ℕ
+answer_of (Some yes) = if yes then YES else NO
+answer_of None = UNKNOWN
+
 -- whether the first value type matches the second one in their list
 abbrev pub SaysMatching : Option (shown.Types Global) → ValueType → ValueType → ℕ → Type 0
-SaysMatching (Some t) first second answer = TellsMatch (shown_of t).list first second answer
+SaysMatching (Some t) first second answer = (told : Option Bool) × TellsMatch (shown_of t).list first second told × (answer ≡ answer_of told)
 SaysMatching None first second answer = answer ≡ STATUS_WRONG
-
--- the list with more types, which has those of both where one begins the other
-abbrev pub longer : Listing Global → Listing Global → Listing Global
-longer l m = if nat_lt (length (types_in l)) (length (types_in m)) then m else l
 
 -- whether an export of the first may be given for an import of the second, where both are of one validator
 abbrev pub SaysLinked : Option (shown.Types Global) → ℕ → Option (shown.Types Global) → ℕ → ℕ → Type 0

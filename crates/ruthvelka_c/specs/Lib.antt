@@ -5,5 +5,4 @@ pub mod Externs
 pub mod Queries
 pub mod Lists
 pub mod Names
-pub mod Values
 pub mod Handles

@@ -7,19 +7,18 @@ ghost use Rattle.wasm_validator_handles.specs.Keeping.{AreTypes, Answers, types_
 ghost use Rattle.wasm_validator_handles.specs.WasmValidator.Standing.{fresh};
 ghost use Rattle.wasm_validator_handles.specs.WasmValidator.WasmValidatorTypes.Shown.{shown_by};
 ghost use Rattle.ruthvelka_c.specs.Arrays.{HasText};
-ghost use Rattle.ruthvelka_c.specs.Handles.{AreModuleHere, SaysLinked, SaysMatching, SaysSubtype, TellsAnswer, TellsIds, TellsOn, TellsReset, error_status, longer, refusal_status};
+ghost use Rattle.ruthvelka_c.specs.Handles.{AreModuleHere, SaysLinked, SaysMatching, SaysSubtype, TellsAnswer, TellsIds, TellsOn, TellsReset, answer_of, error_status, refusal_status};
 ghost use Rattle.ruthvelka_c.specs.Reports.{flags};
 
 use crate::arrays::{write_function_ids, write_type_ids};
 use crate::lists::not_checked;
-use crate::queries::{judge_below, nth_export, nth_import, say_given};
+use crate::queries::{UNKNOWN, judge_below, nth_export, nth_import, say, say_given};
 use crate::report::{Answer, Report, report_counts, report_of, report_refusal, write_message};
-use crate::values::{ValueType, tell_match};
 use std::alloc::Global;
 use wasm_validator_handles::validator::{
-    CoreTypeId, Error, Flags, TypeList, Types, Validator, ValidatorId, WasmFeatures,
+    CoreTypeId, Error, Flags, Types, Validator, ValidatorId, WasmFeatures,
 };
-use wasm_validator_handles::{Handle, Kept, NotAsked};
+use wasm_validator_handles::{Handle, Kept, NotAsked, ValueType, are_one, longer, match_values};
 
 /// It was done.
 pub const STATUS_DONE: u32 = 16;
@@ -275,8 +274,17 @@ fn say_matching(kept: &Kept, first: ValueType, second: ValueType) -> u32
     ensures { SaysMatching (types_of (Just kept.now)) first second result }
 {
     match kept.types() {
-        Some(types) => tell_match(types.as_ref().type_list(), first, second),
+        Some(types) => say_maybe(match_values(types.as_ref().type_list(), first, second)),
         None => STATUS_WRONG,
+    }
+}
+
+fn say_maybe(answer: Option<bool>) -> u32
+    ensures { result ≡ answer_of answer }
+{
+    match answer {
+        Some(yes) => say(yes),
+        None => UNKNOWN,
     }
 }
 
@@ -334,22 +342,5 @@ fn say_linked(exporter: &Types, exported: u32, importer: &Types, imported: u32) 
         )
     } else {
         STATUS_WRONG
-    }
-}
-
-fn are_one(first: ValidatorId, second: ValidatorId) -> bool
-    ensures { Decides result (first ≡ second) }
-{
-    first == second
-}
-
-/// The list with more types, which has those of both where one begins the other.
-fn longer<'a>(first: &'a TypeList, second: &'a TypeList) -> &'a TypeList
-    ensures { result.now ≡ longer first.now second.now }
-{
-    if first.len() < second.len() {
-        second
-    } else {
-        first
     }
 }

@@ -19,15 +19,11 @@ mod lists;
 mod names;
 mod queries;
 mod report;
-mod values;
 
 use answers::{answer_alone, answer_list, write_ids};
 use arrays::write_numbers;
 pub use externs::{EXACT_FUNCTION, Extern, FUNCTION, GLOBAL, MEMORY, NO_ID, TABLE, TAG};
 use externs::{gather_externs, write_all};
-pub use handles::{
-    STATUS_DONE, STATUS_FAILED, STATUS_NO_MEMORY, STATUS_REFUSED, STATUS_VALID, STATUS_WRONG,
-};
 pub use lists::Bytes;
 use lists::{gather_functions, gather_types, write_reports};
 use names::{all_features, find_feature, find_name, write_name};
@@ -36,7 +32,6 @@ pub use queries::{IS_SUBTYPE, MAY_BE_GIVEN, NO, Query, UNKNOWN, YES};
 use report::{report_no_memory, report_of, report_with_names, write_message};
 pub use report::{NO_FUNCTION, NO_MEMORY, NOT_CHECKED, REFUSED, Report, VALID};
 use std::alloc::Global;
-pub use values::{TYPE_BY_ID, ValueType};
 use wasm_validator_handles::validator::{Flags, WasmFeatures};
 
 /// The version of the library, as major · 1,000,000 + minor · 1,000 + patch.

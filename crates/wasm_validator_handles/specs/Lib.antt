@@ -1,3 +1,5 @@
 pub use Rattle.wasm_validator.specs as WasmValidator
 pub mod Handle
 pub mod Keeping
+pub mod Values
+pub mod Pairs

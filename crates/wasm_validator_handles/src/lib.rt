@@ -5,14 +5,18 @@
 mod handle;
 mod kept;
 mod loose;
+mod pairs;
+mod values;
 
 pub use handle::Handle;
 pub use kept::{Answer, Kept, NotAsked};
+pub use pairs::{are_one, longer};
+pub use values::{ValueType, match_values};
 
 /// The validator's items that a caller of this crate needs beside it.
 pub mod validator {
     pub use wasm_validator::{
-        AbstractHeapType, CoreTypeId, EntityType, Error, Flags, HeapType, RefType, TypeList, Types,
-        TypesRef, UnpackedIndex, ValType, Validator, ValidatorId, WasmFeatures, validate_list,
+        CoreTypeId, EntityType, Error, Flags, TypeList, Types, TypesRef, Validator, ValidatorId,
+        WasmFeatures, validate_list,
     };
 }

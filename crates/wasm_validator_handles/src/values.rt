@@ -1,16 +1,14 @@
-//! Value types, as C writes them.
+//! Value types, written as numbers.
 
 ghost use Rattle.std.specs.Prelude.{◌≡◌, IfSome};
 ghost use Rattle.std.specs.Bool.{Decides};
 ghost use Rattle.std.specs.Option.{option_map};
-ghost use Rattle.wasm_validator_handles.specs.WasmValidator.WasmValidatorTypes.WasmValidatorTypeList.Subtyping.{heap_by_ids, ref_by_ids, val_by_ids};
-ghost use Rattle.wasm_spec_rules.specs.WasmSpec.BinaryTypes.{abstract_heap_from};
+ghost use Rattle.wasm_validator.specs.WasmValidatorTypes.WasmValidatorTypeList.Subtyping.{heap_by_ids, ref_by_ids, val_by_ids};
+ghost use Rattle.wasm_spec.specs.BinaryTypes.{abstract_heap_from};
 ghost use Rattle.wasm_readers_types.specs.WasmReadersValues.SeenValues.{HeapFits, abstract_heap_of};
-ghost use Rattle.ruthvelka_c.specs.Queries.{IsSaid};
-ghost use Rattle.ruthvelka_c.specs.Values.{Match, SaysMatch, TellsMatch, heap_from, reference_from, value_from};
+ghost use Rattle.wasm_validator_handles.specs.Values.{Match, SaysMatch, TellsMatch, heap_from, reference_from, value_from};
 
-use crate::queries::{UNKNOWN, say};
-use wasm_validator_handles::validator::{
+use wasm_validator::{
     AbstractHeapType, CoreTypeId, HeapType, RefType, TypeList, UnpackedIndex, ValType,
 };
 
@@ -112,29 +110,24 @@ fn is_match(list: &TypeList, first: ValType, second: ValType) -> bool
     list.holds_value(first) && list.holds_value(second) && list.valtype_is_subtype(first, second)
 }
 
-fn judge_match(list: &TypeList, first: ValType, second: ValType) -> u32
-    ensures { IsSaid result (Match list.now first second) }
-{
-    say(is_match(list, first, second))
-}
-
-fn say_match(list: &TypeList, first: Option<ValType>, second: Option<ValType>) -> u32
+fn match_maybe(list: &TypeList, first: Option<ValType>, second: Option<ValType>) -> Option<bool>
     ensures { SaysMatch list.now first second result }
 {
     match first {
-        None => UNKNOWN,
+        None => None,
         Some(first) => match second {
-            None => UNKNOWN,
-            Some(second) => judge_match(list, first, second),
+            None => None,
+            Some(second) => Some(is_match(list, first, second)),
         },
     }
 }
 
-/// The answer to whether the first matches the second, or that one of them is none.
-pub fn tell_match(list: &TypeList, first: ValueType, second: ValueType) -> u32
+/// Whether the first matches the second, in a list that has all ids that both name; none where one of
+/// them is no value type.
+pub fn match_values(list: &TypeList, first: ValueType, second: ValueType) -> Option<bool>
     ensures { TellsMatch list.now first second result }
 {
     let a = read_value(first);
     let b = read_value(second);
-    say_match(list, a, b)
+    match_maybe(list, a, b)
 }

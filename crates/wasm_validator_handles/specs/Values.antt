@@ -1,18 +1,17 @@
--- Value types, as C writes them. Core Specification 3.0, Binary Format, Types, Value Types, with ids in place of type indices.
+-- Value types, written as numbers. Core Specification 3.0, Binary Format, Types, Value Types, with ids in place of type indices.
 use Rattle.std.specs.Prelude.{ℕ, ◌≡◌, ◌<◌, ◌==◌, if◌then◌else◌, nat_lt, Bool, true, false, length, Option, Some, None}
-use Rattle.std.specs.Option.{option_map, option_and_then}
+use Rattle.std.specs.Bool.{Decides}
+use Rattle.std.specs.Option.{option_map}
 use Rattle.std.specs.declared.alloc.Global.{Global}
-use Rattle.wasm_spec_rules.specs.WasmSpec.BinaryTypes.{abstract_heap_from}
-use Rattle.wasm_spec_rules.specs.WasmSpec.Syntax.{Heap, Val, i32, i64, f32, f64, v128, reference, concrete, abstract_heap}
-use Rattle.wasm_spec_rules.specs.WasmSpec.Matching.{MatchesVal}
-use Rattle.wasm_validator_handles.specs.WasmValidator.WasmValidatorTypes.WasmValidatorTypeList.Declares.{declares}
-use Rattle.wasm_validator_handles.specs.WasmValidator.WasmValidatorTypes.WasmValidatorTypeList.Listing.{Listing, types_in}
-use Rattle.wasm_validator_handles.specs.WasmValidator.WasmValidatorTypes.WasmValidatorTypeList.Subtyping.{IsValOver, val_by_ids}
+use Rattle.wasm_spec.specs.BinaryTypes.{abstract_heap_from}
+use Rattle.wasm_spec.specs.Syntax.{Heap, Val, i32, i64, f32, f64, v128, reference, concrete, abstract_heap}
+use Rattle.wasm_spec.specs.Matching.{MatchesVal}
+use Rattle.wasm_validator.specs.WasmValidatorTypes.WasmValidatorTypeList.Declares.{declares}
+use Rattle.wasm_validator.specs.WasmValidatorTypes.WasmValidatorTypeList.Listing.{Listing, types_in}
+use Rattle.wasm_validator.specs.WasmValidatorTypes.WasmValidatorTypeList.Subtyping.{IsValOver, val_by_ids}
 use Rattle.wasm_readers_types.specs.WasmReadersValues.declared.values.ValType.{ValType}
-use Rattle.ruthvelka_c.specs.declared.values.ValueType.{ValueType}
-use Rattle.ruthvelka_c.specs.declared.values.TheConstants.{TYPE_BY_ID, MOST_IDS}
-use Rattle.ruthvelka_c.specs.declared.queries.TheConstants.{UNKNOWN}
-use Rattle.ruthvelka_c.specs.Queries.{IsSaid}
+use Rattle.wasm_validator_handles.specs.declared.values.ValueType.{ValueType}
+use Rattle.wasm_validator_handles.specs.declared.values.TheConstants.{TYPE_BY_ID, MOST_IDS}
 
 -- a heap type: that of an id, or an abstract one that isn't shared
 abbrev pub heap_from : ValueType → Option (Heap ℕ)
@@ -39,13 +38,18 @@ value_from it =
 abbrev pub Match : Listing Global → ValType → ValType → Type 0
 Match l a b = IsValOver (length (types_in l)) a × IsValOver (length (types_in l)) b × MatchesVal (declares l.groups) (val_by_ids a) (val_by_ids b)
 
-abbrev pub SaysMatch : Listing Global → Option ValType → Option ValType → ℕ → Type 0
-SaysMatch l None b answer = answer ≡ UNKNOWN
-SaysMatch l (Some a) None answer = answer ≡ UNKNOWN
-SaysMatch l (Some a) (Some b) answer = IsSaid answer (Match l a b)
+-- there is an answer, and it says whether this holds
+abbrev pub DecidesMaybe : Option Bool → Type 0 → Type 0
+DecidesMaybe (Some yes) P = Decides yes P
+DecidesMaybe None P = ⊥
 
--- What is answered to whether the first matches the second: that one of them is none, or whether it does.
-pub record TellsMatch (l : Listing Global) (first second : ValueType) (answer : ℕ) : Type 0 where
+abbrev pub SaysMatch : Listing Global → Option ValType → Option ValType → Option Bool → Type 0
+SaysMatch l None b answer = answer ≡ None
+SaysMatch l (Some a) None answer = answer ≡ None
+SaysMatch l (Some a) (Some b) answer = DecidesMaybe answer (Match l a b)
+
+-- What is answered to whether the first matches the second: whether it does, unless one of them is none.
+pub record TellsMatch (l : Listing Global) (first second : ValueType) (answer : Option Bool) : Type 0 where
   pub a : Option ValType
   pub b : Option ValType
   pub is_first : option_map val_by_ids a ≡ value_from first
