@@ -27,7 +27,7 @@ use Rattle.std.proofs.raw_atomic.Walks.{proved_at, leaves}
 use Rattle.std.specs.declared.option.Option.TheVariants.{None, Some}
 use Rattle.std.specs.contracts.impls.GlobalAllocator.TheImpl.{ghosts}
 use Rattle.std_alloc.proofs.ResultValues.{and_tt}
-use Rattle.wasm_validator_handles.proofs.Values.{both, Loose, loose_good, loose_out, loose_in, K, Z, LZ, Held, heap_al, handle_good, ptr_good, handle_out, handle_in, either_held}
+use Rattle.wasm_validator_handles.proofs.InMemory.{both, Loose, loose_good, loose_out, loose_in, K, Z, LZ, Held, heap_al, handle_good, ptr_good, handle_out, handle_in, either_held}
 use Rattle.wasm_validator_handles.specs.contracts.handle.Handle.into_loose.{ended, clauses}
 use Rattle.wasm_validator_handles.specs.contracts.handle.Handle.into_loose.Key.{name as #self}
 use Rattle.wasm_validator_handles.proofs.handle.Handle.into_loose.Statement.{statement}
