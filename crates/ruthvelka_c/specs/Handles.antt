@@ -81,7 +81,7 @@ SaysSubtype None first second answer = answer ≡ STATUS_WRONG
 
 -- an answer in C: that there is none, or yes or no
 abbrev pub answer_of : Option Bool → ℕ
-answer_of (Some yes) = if yes then YES else NO
+answer_of (Some answer) = if answer then YES else NO
 answer_of None = UNKNOWN
 
 -- whether the first value type matches the second one in their list

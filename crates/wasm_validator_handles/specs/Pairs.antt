@@ -1,5 +1,5 @@
 -- Two modules of one validator.
-use Rattle.std.specs.Prelude.{ℕ, if◌then◌else◌, nat_lt, length}
+use Rattle.std.specs.Prelude.{if◌then◌else◌, nat_lt, length}
 use Rattle.std.specs.declared.alloc.Global.{Global}
 use Rattle.wasm_validator.specs.WasmValidatorTypes.WasmValidatorTypeList.Listing.{Listing, types_in}
 

@@ -1,5 +1,5 @@
 -- Value types, written as numbers. Core Specification 3.0, Binary Format, Types, Value Types, with ids in place of type indices.
-use Rattle.std.specs.Prelude.{ℕ, ◌≡◌, ◌<◌, ◌==◌, if◌then◌else◌, nat_lt, Bool, true, false, length, Option, Some, None}
+use Rattle.std.specs.Prelude.{ℕ, ◌≡◌, ◌==◌, if◌then◌else◌, nat_lt, Bool, true, false, length, Option, Some, None}
 use Rattle.std.specs.Bool.{Decides}
 use Rattle.std.specs.Option.{option_map}
 use Rattle.std.specs.declared.alloc.Global.{Global}
@@ -40,7 +40,7 @@ Match l a b = IsValOver (length (types_in l)) a × IsValOver (length (types_in l
 
 -- there is an answer, and it says whether this holds
 abbrev pub DecidesMaybe : Option Bool → Type 0 → Type 0
-DecidesMaybe (Some yes) P = Decides yes P
+DecidesMaybe (Some answer) P = Decides answer P
 DecidesMaybe None P = ⊥
 
 abbrev pub SaysMatch : Listing Global → Option ValType → Option ValType → Option Bool → Type 0

@@ -4,6 +4,7 @@ ghost use Rattle.std.specs.Prelude.{◌≡◌, IfErr, IfOk, MatchOption};
 ghost use Rattle.std.specs.declared.option.Option.{Option as Perhaps};
 ghost use Rattle.std.specs.declared.option.Option.TheVariants.{None as Nothing, Some as Just};
 ghost use Rattle.wasm_validator_handles.specs.declared.kept.Kept.{Kept as Stored};
+ghost use Rattle.wasm_validator_handles.specs.Codes.{coded_held};
 ghost use Rattle.wasm_validator_handles.specs.Keeping.{Answers, Resets, Shares, types_of};
 
 use crate::kept::{Answer, Kept, NotAsked};
@@ -21,7 +22,7 @@ use wasm_validator::Types;
 pub struct Handle {
     at: *mut u8,
     alloc: Global,
-    pub ghost value: { Perhaps Stored },
+    pub ghost value: { Perhaps Stored } by { coded_held },
 }
 
 impl Model for Handle {

@@ -1,34 +1,26 @@
 -- `empty` is null, and owns nothing.
-use Rattle.std.proofs.Common.{◌≡◌, ℕ, List, [], ◌∷◌, ◌++◌, refl, sym, ap, ◌∙◌, subst, lit<}
-use mir.Val.{Val, vptr, vcons, vnil}
+use Rattle.std.proofs.Common.{◌≡◌, List, [], ◌∷◌, ◌++◌, refl, sym, subst}
+use mir.Val.{Val}
 use base.Logic.{SProp, ent, emp, id⊢}
 use base.Fml.{ftrue}
 use prog.Wp.{WpFn}
-use types.Kit.{‵, raw, ◌⊛◌, at_ret, ◌$◌, ◌∵◌, !, qed, by, move, keep, split, fsplit, fjoin, suffices, use0, use1, feq_i}
-use types.Run.{stop, fld, lit, of_opd, bin, no_more, and_then, first, branches, exec, returns, enter}
-use types.ByLocal.{alloc_all, pass_all, free_all, look_at, get, get_in, sets, sets_last, env}
-use types.Part.{agg, sub, whole}
-use types.Match.{live}
+use types.Kit.{‵, raw, ◌⊛◌, ◌$◌, ◌∵◌, !, qed, by, move, keep, split, fsplit, fjoin, suffices, use0, feq_i}
+use types.Run.{lit, no_more, and_then, returns, enter}
+use types.ByLocal.{alloc_all, pass_all, free_all, look_at, get, sets}
+use types.Part.{agg}
 use contract.Monad.{fact, fact_i}
 use contract.Running.{tables}
 use denote.Exit.{yes}
 use denote.RattleType.{RattleType, owns}
-use denote.Signature.{types_at, type_at, plain}
-use denote.Builtin.{RawPtr}
-use denote.RawPtr.{Ptr, block_ptr, null_ptr, ptr_val, tests_null}
+use denote.Signature.{types_at, plain}
+use denote.RawPtr.{Ptr, null_ptr, ptr_val}
 use denote.Steps.{nothing}
-use denote.Param.{layout}
 use denote.Triple.Walked.{Stays, stay_dropped, walk_of, Goes-dropped}
 use Rattle.std.proofs.alloc.Calls.{handle_tells}
-use Rattle.std.proofs.alloc.Shapes.{after}
-use Rattle.std.proofs.cell.Inside.{Good}
-use Rattle.std.proofs.option.Made.{Some-of, none_of}
 use Rattle.std.proofs.raw_atomic.Walks.{proved_at, leaves}
 use Rattle.std.specs.declared.option.Option.{Option}
-use Rattle.std.specs.declared.option.Option.TheVariants.{None, Some}
-use Rattle.std.specs.contracts.impls.GlobalAllocator.TheImpl.{ghosts}
-use Rattle.std_alloc.proofs.ResultValues.{and_tt}
-use Rattle.wasm_validator_handles.proofs.InMemory.{both, Loose, loose_good, loose_out, loose_in, K, Z, LZ, Held, heap_al, handle_good, ptr_good, handle_out, handle_in, either_held}
+use Rattle.std.specs.declared.option.Option.TheVariants.{None}
+use Rattle.wasm_validator_handles.proofs.InMemory.{both, K, Z, heap_al, handle_good, handle_in}
 use Rattle.wasm_validator_handles.specs.contracts.handle.Handle.empty.{ended, clauses}
 use Rattle.wasm_validator_handles.specs.contracts.handle.Handle.empty.Key.{name as #self}
 use Rattle.wasm_validator_handles.proofs.handle.Handle.empty.Statement.{statement}
