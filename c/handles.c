@@ -133,7 +133,7 @@ void ruthvelka_validator_free(struct ruthvelka_validator *validator) {
 }
 
 uint32_t ruthvelka_types_retain(struct ruthvelka_types *types, struct ruthvelka_types *copy) {
-    if (!types || !copy || !is_nothing(copy->words)) return RUTHVELKA_STATUS_WRONG;
+    if (!types || !copy || copy == types || !is_nothing(copy->words)) return RUTHVELKA_STATUS_WRONG;
     const struct ruthvelka_allocator *const before = ruthvelka_lend_allocator(allocator_of(types->words));
     const uint32_t status = ruthvelka_proved_types_retain(&types->words[PLACE], &copy->words[PLACE]);
     ruthvelka_lend_allocator(before);

@@ -132,6 +132,7 @@ static void try_wrong(void) {
     EXPECT_KEPT(ruthvelka_types_ids(&types, &outcome, type_ids, 4, NULL, 1));
     EXPECT_KEPT(ruthvelka_types_ids(&types, &outcome, type_ids, 4, function_ids, TOO_MANY(4)));
     passed.name = NULL;
+    expect("a copy in its own place", ruthvelka_types_retain(&empty, &empty) == WRONG && !passed.name);
     expect("a full copy", ruthvelka_types_retain(&types, &others) == WRONG && ruthvelka_types_retain(&types, &types) == WRONG);
     status = RUTHVELKA_YES;
     const struct ruthvelka_value_type value = {sizeof value, RUTHVELKA_I32, 0, 0}, small = {.size = 19, .kind = RUTHVELKA_I32};
