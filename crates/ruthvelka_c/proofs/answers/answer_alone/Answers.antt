@@ -1,5 +1,4 @@
 use Rattle.std.proofs.Common.{◌≡◌, ℕ, ap, subst, ◌∙◌}
-use Rattle.wasm_readers_errors.specs.WasmReadersFeatures.declared.features.WasmFeatures.{WasmFeatures}
 use Rattle.wasm_validator_handles.specs.WasmValidator.Verdict.{DecidesModule}
 use Rattle.wasm_validator_handles.specs.WasmValidator.Standing.{Standing, fresh}
 use Rattle.ruthvelka_c.specs.Reports.{flags}
