@@ -28,10 +28,11 @@
    - a handle begins as RUTHVELKA_NOTHING (or all bytes 0), and then holds what these calls wrote;
    - it is moved and never copied: of two copies only one is used from the next call on, and
      ruthvelka_types_retain is how two handles come to share types;
-   - a validator, and all handles that hold types from it, stay on one thread. What a call fills
-     has to hold nothing before. A handle that was freed holds nothing: each call on it says
-     RUTHVELKA_STATUS_WRONG, and to free it again does nothing. Types live on when their validator
-     is freed.
+   - a validator, and all handles that hold types from it, stay on one thread.
+
+   What a call fills has to hold nothing before. A handle that was freed holds nothing: each call
+   on it says RUTHVELKA_STATUS_WRONG, and to free it again does nothing. Types live on when their
+   validator is freed.
 
    Ids. Each type has an id, a number below 1,048,576. Under RUTHVELKA_STANDARD two types of
    modules of one validator have one id exactly where they are equal, and an id means the same as
@@ -65,10 +66,10 @@
    lists of modules are only read, so calls may share them. Make no call in a signal handler, and
    none in an allocator.
 
-   Wrong calls. A pointer may be null where its count is 0; an outcome, a report and the types that
-   a module's go to may always be null. Any other null pointer, a count of items that no object can
-   have (more than PTRDIFF_MAX bytes), an outcome whose size ends before its status does, a handle
-   to be filled that holds something, and a bit of `features` that no feature has make the status
+   Wrong calls. A pointer may be null where its count is 0; an outcome, and the handle for the types
+   of a module, may always be null. Any other null pointer, a count of items that no object can have
+   (more than PTRDIFF_MAX bytes), an outcome whose size ends before its status does, a handle to be
+   filled that holds something, and a bit of `features` that no feature has make the status
    RUTHVELKA_STATUS_WRONG, and nothing is written but an outcome. Calls that give no status say
    themselves what they do. Arrays that are written need not be initialized.
 
@@ -278,8 +279,8 @@ struct ruthvelka_types {
        struct ruthvelka_validator validator = RUTHVELKA_NOTHING;
        if (ruthvelka_validator_new(&validator, RUTHVELKA_STANDARD, &arena) != RUTHVELKA_STATUS_DONE)
            return out_of_memory(); */
-uint32_t ruthvelka_validator_new(struct ruthvelka_validator *validator, uint64_t features, const
-    struct ruthvelka_allocator *allocator);
+uint32_t ruthvelka_validator_new(struct ruthvelka_validator *validator, uint64_t features,
+    const struct ruthvelka_allocator *allocator);
 
 /* ruthvelka_validator_validate: whether `length` bytes are a valid module, by this validator,
    whose ids go on behind those of the modules before. Message and outcome are as of
@@ -296,8 +297,8 @@ uint32_t ruthvelka_validator_new(struct ruthvelka_validator *validator, uint64_t
                    &types[i]) != RUTHVELKA_STATUS_VALID)
                return refuse(i, &outcome); */
 uint32_t ruthvelka_validator_validate(struct ruthvelka_validator *validator, const uint8_t *bytes,
-    size_t length, char *message, size_t message_room, struct ruthvelka_outcome *outcome, struct
-    ruthvelka_types *types);
+    size_t length, char *message, size_t message_room, struct ruthvelka_outcome *outcome,
+    struct ruthvelka_types *types);
 
 /* ruthvelka_validator_reset: makes the validator ready for its next module, and says whether it
    can go on. Its types keep their ids. ruthvelka_validator_validate does the same by itself.
@@ -354,7 +355,8 @@ uint32_t ruthvelka_types_ids(struct ruthvelka_types *types, struct ruthvelka_out
    don't know an id, or the handle holds none. Threads: the validator's.
 
        if (ruthvelka_types_is_subtype(&types, given[i], wanted[j]) == RUTHVELKA_YES) call(i, j); */
-uint32_t ruthvelka_types_is_subtype(struct ruthvelka_types *types, uint32_t first, uint32_t second);
+uint32_t ruthvelka_types_is_subtype(struct ruthvelka_types *types, uint32_t first,
+    uint32_t second);
 
 /* The kinds of value types, and the abstract heap types that a reference may be to, by their
    numbers in the binary format. */
@@ -425,7 +427,9 @@ uint32_t ruthvelka_types_entity_may_be_given(struct ruthvelka_types *exporter, u
 
    The calls below are deprecated: they stay for one version more. Their verdicts begin with 0 for
    a valid module, so a report that was set to 0 and never written reads as valid. ruthvelka_check
-   has what ruthvelka_validate has, and handles have what the lists have. */
+   has what ruthvelka_validate has, and handles have what the lists have; only the names of imports
+   and exports have no other call yet. What is said above of outcomes holds of their reports, which
+   may be null; a wrong call gives RUTHVELKA_BAD_CALL, and writes nothing but its report. */
 
 /* Verdicts. */
 #define RUTHVELKA_VALID 0        /* the bytes are a valid module */
@@ -493,9 +497,9 @@ uint32_t ruthvelka_validate(const uint8_t *bytes, size_t length, uint64_t featur
                type_ids, 64, function_ids, 64) == RUTHVELKA_VALID)
            for (uint32_t i = 0; i < report.functions && i < 64; i++)
                printf("function %u: type id %u\n", i, function_ids[i]); */
-uint32_t ruthvelka_validate_with_ids(const uint8_t *bytes, size_t length, uint64_t features, char
-    *message, size_t message_room, struct ruthvelka_report *report, uint32_t *type_ids, size_t
-    type_room, uint32_t *function_ids, size_t function_room);
+uint32_t ruthvelka_validate_with_ids(const uint8_t *bytes, size_t length, uint64_t features,
+    char *message, size_t message_room, struct ruthvelka_report *report, uint32_t *type_ids,
+    size_t type_room, uint32_t *function_ids, size_t function_room);
 
 /* The kinds of what is imported and exported, by their numbers in the binary format. */
 #define RUTHVELKA_FUNCTION 0
@@ -542,9 +546,9 @@ struct ruthvelka_extern {
            for (uint64_t i = 0; i < report.imports && i < 64; i++)
                print_escaped(names + imports[i].name_start, (size_t)imports[i].name_length); */
 uint32_t ruthvelka_validate_with_externs(const uint8_t *bytes, size_t length, uint64_t features,
-    char *message, size_t message_room, struct ruthvelka_report *report, struct ruthvelka_extern
-    *imports, size_t import_room, struct ruthvelka_extern *exports, size_t export_room, char *names,
-    size_t name_room);
+    char *message, size_t message_room, struct ruthvelka_report *report,
+    struct ruthvelka_extern *imports, size_t import_room, struct ruthvelka_extern *exports,
+    size_t export_room, char *names, size_t name_room);
 
 /* The bytes of one module of a list. */
 struct ruthvelka_bytes {
@@ -623,9 +627,9 @@ struct ruthvelka_query {
                &query, 1) == RUTHVELKA_VALID
            && query.answer == RUTHVELKA_YES)
            link(0, 1); */
-uint32_t ruthvelka_validate_list_with_queries(const struct ruthvelka_bytes *modules, size_t
-    module_count, uint64_t features, struct ruthvelka_report *reports, size_t report_room, struct
-    ruthvelka_query *queries, size_t query_count);
+uint32_t ruthvelka_validate_list_with_queries(const struct ruthvelka_bytes *modules,
+    size_t module_count, uint64_t features, struct ruthvelka_report *reports, size_t report_room,
+    struct ruthvelka_query *queries, size_t query_count);
 
 /* ruthvelka_set_allocator: from now on memory comes from these three functions, which have to do
    what malloc, realloc and free do: a block for any size, aligned to each power of two up to 16
