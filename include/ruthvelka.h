@@ -3,7 +3,7 @@
    A module is accepted exactly where it is valid under the WebAssembly Core Specification 3.0 and
    the enabled proposals, within fixed limits, and has nothing that is left out. docs/THEOREM.md of
    the repository has the exact statement; docs/PROVED.md says which part of this library is
-   proved: all but c/, some 390 lines of C that test the arguments, pass these calls on, write
+   proved: all but c/, some 400 lines of C that test the arguments, pass these calls on, write
    outcomes and take memory.
 
    How to use it. A program that loads modules makes a validator, gives it one module after
