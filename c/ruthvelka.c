@@ -1,12 +1,9 @@
 /* The calls of ruthvelka.h, over the proved ones, which want no null pointer, no length past PTRDIFF_MAX bytes and no unknown feature: a null pointer
    whose count is 0 becomes the place of a dummy, and all else is a wrong call. */
-#include "ruthvelka.h"
-
-#include <stdbool.h>
+#include "internal.h"
 
 /* The proved calls (crates/ruthvelka_c). */
 uint32_t ruthvelka_proved_version(void);
-uint64_t ruthvelka_proved_features(void);
 uint64_t ruthvelka_proved_feature(const uint8_t *name, size_t length);
 uint64_t ruthvelka_proved_feature_name(uint64_t feature, uint8_t *name, size_t name_room);
 uint32_t ruthvelka_proved_validate(const uint8_t *bytes, size_t length, uint64_t features, uint8_t *message, size_t message_room,
@@ -21,14 +18,6 @@ uint32_t ruthvelka_proved_validate_list(const struct ruthvelka_bytes *modules, s
 uint32_t ruthvelka_proved_validate_list_with_queries(const struct ruthvelka_bytes *modules, size_t module_count, uint64_t features,
     struct ruthvelka_report *reports, size_t report_room, struct ruthvelka_query *queries, size_t query_count);
 
-/* What the proved part takes memory by (alloc.c). */
-struct rattle_given {
-    bool is_given;
-    uint8_t *place;
-};
-struct rattle_given rattle_alloc(size_t size, size_t alignment);
-void rattle_dealloc(uint8_t *block);
-
 /* What stands where a caller gave a null pointer with a count of 0. Nothing is ever read or written there. */
 static union {
     uint8_t bytes[1];
@@ -38,15 +27,6 @@ static union {
     struct ruthvelka_report reports[1];
     struct ruthvelka_query queries[1];
 } none;
-
-/* Whether a call may be given this array: null only with no items, and no more bytes than fit an object. */
-static bool is_array(const void *items, size_t count, size_t size) {
-    return (items || !count) && count <= (size_t)PTRDIFF_MAX / size;
-}
-
-static bool are_known(uint64_t features) {
-    return !(features & ~ruthvelka_proved_features());
-}
 
 static uint32_t bad_call(struct ruthvelka_report *report) {
     if (report) *report = (struct ruthvelka_report){.verdict = RUTHVELKA_BAD_CALL, .function = RUTHVELKA_NO_FUNCTION};

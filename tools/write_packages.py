@@ -34,7 +34,7 @@ class Header:
         number = int(re.search(r"(?m)^#define RUTHVELKA_VERSION (\d+)$", text)[1])
         self.number = number
         self.version = f"{number // 1_000_000}.{number // 1_000 % 1_000}.{number % 1_000}"
-        found = re.findall(r"(?m)^#define RUTHVELKA_(\w+) \(UINT64_C\(1\) << (\d+)\) +/\* (.*?) \*/$", text)
+        found = re.findall(r"(?m)^#define RUTHVELKA_(\w+) \(UINT64_C\(1\) << (\d+)\)\s+/\* (.*?) \*/$", text)
         self.features = [(name, int(bit), said) for name, bit, said in found]
         if len(found) != len(re.findall(r"(?m)^#define RUTHVELKA_\w+ \(UINT64_C\(1\) <<", text)):
             sys.exit(f"write_packages: a feature of {HEADER} has no comment behind it")

@@ -1,16 +1,16 @@
 -- A validator that is made for one module has ids for all its types.
-use Rattle.std.proofs.Common.{ℕ, suc, ◌≡◌, ◌+◌, ◌<◌, ◌≤◌, ◌++◌, cond, Bool, true, false, List, [], ◌∷◌, length, length-append, refl, arith}
+use Rattle.std.proofs.Common.{ℕ, ◌+◌, ◌≤◌, ◌++◌, cond, Bool, true, false, List, [], ◌∷◌, length, length-append, refl, arith}
 use Rattle.std.specs.Prelude.{fold}
 use Rattle.std.specs.declared.result.Result.TheVariants.{Ok, Err}
 use Rattle.wasm_readers_errors.specs.WasmReadersFeatures.declared.features.WasmFeatures.{WasmFeatures}
 use Rattle.wasm_spec_rules.specs.FeatureFlags.{features_of}
 use Rattle.wasm_spec_rules.specs.WasmSpec.Features.{canonical}
 use Rattle.wasm_spec_rules.specs.WasmSpec.Trees.{DefType}
-use Rattle.wasm_validator.specs.WasmSpecValidity.Modules.{IsValidModule, IsValidUpToBodies}
-use Rattle.wasm_validator.specs.WasmValidatorCanonical.Counted.{has_type, with_type, with_types}
-use Rattle.wasm_validator.specs.WasmValidatorCore.declared.error.Error.TheVariants.{Refused, DuplicateExport, InFunction, OutOfMemory}
-use Rattle.wasm_validator.specs.Standing.{Standing, fresh}
-use Rattle.wasm_validator.specs.Verdict.{DecidesModule, DecidesAlone, RefusesModule, RefusesUpToBodies, HasIdsWith}
+use Rattle.wasm_validator_handles.specs.WasmValidator.WasmSpecValidity.Modules.{IsValidModule, IsValidUpToBodies}
+use Rattle.wasm_validator_handles.specs.WasmValidator.WasmValidatorCanonical.Counted.{has_type, with_type, with_types}
+use Rattle.wasm_validator_handles.specs.WasmValidator.WasmValidatorCore.declared.error.Error.TheVariants.{Refused, DuplicateExport, InFunction, OutOfMemory}
+use Rattle.wasm_validator_handles.specs.WasmValidator.Standing.{Standing, fresh}
+use Rattle.wasm_validator_handles.specs.WasmValidator.Verdict.{DecidesModule, DecidesAlone, RefusesModule, RefusesUpToBodies, HasIdsWith}
 use Rattle.ruthvelka_c.specs.Answers.{Answer}
 
 one_at_most : (b : Bool) (us : List DefType) (d : DefType) → length (cond b us (us ++ d ∷ [])) ≤ length us + 1

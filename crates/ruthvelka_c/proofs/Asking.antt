@@ -1,7 +1,7 @@
 -- What is said to a question, by what is found.
 use Rattle.std.proofs.Common.{ℕ, ◌≡◌, Option, subst}
 use Rattle.std.specs.declared.alloc.Global.{Global}
-use Rattle.wasm_validator.specs.WasmValidatorTypes.WasmValidatorTypeList.Listing.{Listing}
+use Rattle.wasm_validator_handles.specs.WasmValidator.WasmValidatorTypes.WasmValidatorTypeList.Listing.{Listing}
 use Rattle.ruthvelka_c.specs.Queries.{Says}
 
 -- the same is said of equals

@@ -1,5 +1,5 @@
 -- The imports and exports that are told with an answer.
-use Rattle.std.proofs.Common.{ℕ, ◌≡◌, List, [], length, slice_get, refl, sym, subst, arith}
+use Rattle.std.proofs.Common.{ℕ, ◌≡◌, List, [], length, refl, sym, subst, arith}
 use Rattle.std.specs.declared.result.Result.TheVariants.{Ok, Err}
 use Rattle.ruthvelka_c.specs.declared.externs.Extern.{Extern}
 use Rattle.ruthvelka_c.specs.declared.externs.Externs as gathered

@@ -1,10 +1,10 @@
 -- What a verdict says of the bytes.
-use Rattle.std.proofs.Common.{ℕ, ◌≡◌, ◌≤◌, List, refl, sym, ◌∙◌, arith}
+use Rattle.std.proofs.Common.{ℕ, ◌≡◌, ◌≤◌, List, arith}
 use Rattle.std.specs.declared.result.Result.TheVariants.{Ok, Err}
 use Rattle.wasm_readers_errors.specs.WasmReadersFeatures.declared.features.WasmFeatures.{WasmFeatures}
-use Rattle.wasm_validator.specs.WasmValidatorCore.declared.error.Error.TheVariants.{Refused, DuplicateExport, InFunction, OutOfMemory}
-use Rattle.wasm_validator.specs.WasmSpecValidity.Modules.{up_to_bodies}
-use Rattle.wasm_validator.specs.Verdict.{DecidesAlone, AreModule, AreNoModule}
+use Rattle.wasm_validator_handles.specs.WasmValidator.WasmValidatorCore.declared.error.Error.TheVariants.{Refused, DuplicateExport, InFunction, OutOfMemory}
+use Rattle.wasm_validator_handles.specs.WasmValidator.WasmSpecValidity.Modules.{up_to_bodies}
+use Rattle.wasm_validator_handles.specs.WasmValidator.Verdict.{DecidesAlone, AreModule, AreNoModule}
 use Rattle.ruthvelka_c.specs.declared.report.Report.{Report}
 use Rattle.ruthvelka_c.specs.declared.report.TheConstants.{VALID, REFUSED}
 use Rattle.ruthvelka_c.specs.Answers.{Answer}

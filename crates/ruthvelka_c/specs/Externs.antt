@@ -2,14 +2,14 @@
 use Rattle.std.specs.Prelude.{ℕ, ◌≡◌, ◌++◌, List, [], ◌∷◌, length, map, slice_get, Some}
 use Rattle.std.specs.declared.result.Result.TheVariants.{Ok, Err}
 use Rattle.wasm_spec_rules.specs.WasmSpec.Syntax.{func_extern, func_exact_extern, table_extern, memory_extern, global_extern, tag_extern}
-use Rattle.wasm_validator.specs.WasmValidatorTypes.Entities.{Entity}
-use Rattle.wasm_validator.specs.WasmValidatorTypes.Rows.{all_imports}
-use Rattle.wasm_validator.specs.WasmValidatorTypes.Spaces.{Spaces}
-use Rattle.wasm_validator.specs.WasmValidatorTypes.Shown.{shown_of}
+use Rattle.wasm_validator_handles.specs.WasmValidator.WasmValidatorTypes.Entities.{Entity}
+use Rattle.wasm_validator_handles.specs.WasmValidator.WasmValidatorTypes.Rows.{all_imports}
+use Rattle.wasm_validator_handles.specs.WasmValidator.WasmValidatorTypes.Spaces.{Spaces}
+use Rattle.wasm_validator_handles.specs.WasmValidator.WasmValidatorTypes.Shown.{shown_of}
 use Rattle.ruthvelka_c.specs.declared.externs.Extern.{Extern}
 use Rattle.ruthvelka_c.specs.declared.externs.Externs as gathered
 use Rattle.ruthvelka_c.specs.declared.externs.TheConstants.{FUNCTION, TABLE, MEMORY, GLOBAL, TAG, EXACT_FUNCTION, NO_ID}
-use Rattle.wasm_validator.specs.Verdict.{DecidesAlone}
+use Rattle.wasm_validator_handles.specs.WasmValidator.Verdict.{DecidesAlone}
 use Rattle.ruthvelka_c.specs.declared.report.Report.{Report}
 use Rattle.ruthvelka_c.specs.Answers.{Answer}
 use Rattle.ruthvelka_c.specs.Reports.{Tells, flags}

@@ -5,3 +5,4 @@ pub mod Externs
 pub mod Queries
 pub mod Lists
 pub mod Names
+pub mod Handles

@@ -1,10 +1,10 @@
 -- What is told of a list of modules.
-use Rattle.std.specs.Prelude.{ℕ, ◌≡◌, List, [], length, map, slice_get, Option, Some, None}
+use Rattle.std.specs.Prelude.{ℕ, ◌≡◌, List, [], length, slice_get, Option, Some, None}
 use Rattle.std.specs.List.{flat_map}
 use Rattle.std.specs.declared.result.Result.TheVariants.{Ok, Err}
 use Rattle.wasm_spec_rules.specs.FeatureFlags.{features_of}
-use Rattle.wasm_validator.specs.WasmValidatorTypes.Shown.{shown_of}
-use Rattle.wasm_validator.specs.Headline.{Headline}
+use Rattle.wasm_validator_handles.specs.WasmValidator.WasmValidatorTypes.Shown.{shown_of}
+use Rattle.wasm_validator_handles.specs.WasmValidator.Headline.{Headline}
 use Rattle.ruthvelka_c.specs.declared.report.Report.{Report}
 use Rattle.ruthvelka_c.specs.declared.report.TheConstants.{NOT_CHECKED}
 use Rattle.ruthvelka_c.specs.declared.lists.Bytes.{Bytes}

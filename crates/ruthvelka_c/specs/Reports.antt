@@ -3,14 +3,13 @@ use Rattle.std.specs.Prelude.{ℕ, ◌≡◌, ◌-◌, ◌^◌, List, length, ma
 use Rattle.std.specs.Option.{unwrap_or}
 use Rattle.std.specs.declared.result.Result.TheVariants.{Ok, Err}
 use Rattle.wasm_readers_errors.specs.WasmReadersFeatures.declared.features.WasmFeatures.{WasmFeatures}
-use Rattle.wasm_validator.specs.WasmValidatorTypes.Rows.{all_imports}
-use Rattle.wasm_validator.specs.WasmValidatorTypes.Spaces.{Spaces}
-use Rattle.wasm_validator.specs.WasmValidatorTypes.Shown.{shown_of}
-use Rattle.wasm_validator.specs.WasmValidatorTypes.declared.shown.Types as shown
-use Rattle.wasm_validator.specs.WasmValidatorCore.declared.error.Error.{Error}
-use Rattle.wasm_validator.specs.WasmValidatorCore.declared.error.Error.TheVariants.{Refused, DuplicateExport, InFunction, OutOfMemory}
-use Rattle.wasm_validator.specs.WasmValidatorCore.Errors.{offset_of, missing_of, function_of}
-use Rattle.wasm_validator.specs.Verdict.{DecidesAlone}
+use Rattle.wasm_validator_handles.specs.WasmValidator.WasmValidatorTypes.Rows.{all_imports}
+use Rattle.wasm_validator_handles.specs.WasmValidator.WasmValidatorTypes.Spaces.{Spaces}
+use Rattle.wasm_validator_handles.specs.WasmValidator.WasmValidatorTypes.Shown.{shown_of}
+use Rattle.wasm_validator_handles.specs.WasmValidator.WasmValidatorCore.declared.error.Error.{Error}
+use Rattle.wasm_validator_handles.specs.WasmValidator.WasmValidatorCore.declared.error.Error.TheVariants.{Refused, DuplicateExport, InFunction, OutOfMemory}
+use Rattle.wasm_validator_handles.specs.WasmValidator.WasmValidatorCore.Errors.{offset_of, missing_of, function_of}
+use Rattle.wasm_validator_handles.specs.WasmValidator.Verdict.{DecidesAlone}
 use Rattle.ruthvelka_c.specs.declared.report.Report.{Report}
 use Rattle.ruthvelka_c.specs.declared.report.TheConstants.{VALID, REFUSED, NO_MEMORY, NO_FUNCTION}
 use Rattle.ruthvelka_c.specs.Answers.{Answer}

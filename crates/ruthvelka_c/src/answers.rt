@@ -2,8 +2,8 @@
 
 ghost use Rattle.std.specs.Prelude.{IfOk, [], map};
 ghost use Rattle.wasm_spec_rules.specs.FeatureFlags.{features_of};
-ghost use Rattle.wasm_validator.specs.Headline.{Headline};
-ghost use Rattle.wasm_validator.specs.Verdict.{DecidesAlone};
+ghost use Rattle.wasm_validator_handles.specs.WasmValidator.Headline.{Headline};
+ghost use Rattle.wasm_validator_handles.specs.WasmValidator.Verdict.{DecidesAlone};
 ghost use Rattle.ruthvelka_c.specs.Lists.{bytes_of};
 ghost use Rattle.ruthvelka_c.specs.Reports.{GivesIds, flags};
 
@@ -11,7 +11,9 @@ use crate::arrays::{write_function_ids, write_type_ids};
 use crate::lists::{Bytes, lend};
 use crate::report::Answer;
 use std::alloc::{AllocError, Global};
-use wasm_validator::{Flags, Validator, ValidatorId, WasmFeatures, validate_list};
+use wasm_validator_handles::validator::{
+    Flags, Validator, ValidatorId, WasmFeatures, validate_list,
+};
 
 /// What a new validator with these proposals answers on these bytes.
 pub fn answer_alone(alloc: Global, bytes: &[u8], features: u64) -> Answer

@@ -1,16 +1,16 @@
 //! The imports and the exports of a module, with their names.
 
 ghost use Rattle.std.specs.Prelude.{◌≡◌, ◌<◌, ◌++◌, ◌∷◌, [], IfOk, OnOk, length, slice_get, Some};
-ghost use Rattle.wasm_validator.specs.WasmValidatorTypes.Entities.{entity_of};
-ghost use Rattle.wasm_validator.specs.WasmValidatorTypes.Rows.{all_imports};
-ghost use Rattle.wasm_validator.specs.WasmValidatorTypes.Shown.{shown_by};
+ghost use Rattle.wasm_validator_handles.specs.WasmValidator.WasmValidatorTypes.Entities.{entity_of};
+ghost use Rattle.wasm_validator_handles.specs.WasmValidator.WasmValidatorTypes.Rows.{all_imports};
+ghost use Rattle.wasm_validator_handles.specs.WasmValidator.WasmValidatorTypes.Shown.{shown_by};
 ghost use Rattle.ruthvelka_c.specs.Arrays.{AreWritten};
 ghost use Rattle.ruthvelka_c.specs.Externs.{AreGathered, AreOf, ExternsTell, Joins, export_rows, extern_of, id_of, kind_of};
 
 use crate::arrays::write_bytes;
 use crate::report::Answer;
 use std::alloc::{AllocError, Global};
-use wasm_validator::{EntityType, TypesRef};
+use wasm_validator_handles::validator::{EntityType, TypesRef};
 
 /// The kind of a function, in the place of an import's or an export's.
 pub const FUNCTION: u32 = 0;

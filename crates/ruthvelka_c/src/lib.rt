@@ -4,7 +4,7 @@
 
 ghost use Rattle.std.specs.Prelude.{◌≡◌, ◌≤◌, map};
 ghost use Rattle.bitflags.specs.Sets.{known_bits};
-ghost use Rattle.wasm_validator.specs.Verdict.{AreModule, AreNoModule};
+ghost use Rattle.wasm_validator_handles.specs.WasmValidator.Verdict.{AreModule, AreNoModule};
 ghost use Rattle.ruthvelka_c.specs.Arrays.{HasText};
 ghost use Rattle.ruthvelka_c.specs.Externs.{ToldWithExterns};
 ghost use Rattle.ruthvelka_c.specs.Lists.{ToldList, ToldQueries, bytes_of};
@@ -14,6 +14,7 @@ ghost use Rattle.ruthvelka_c.specs.Reports.{Told, ToldWithIds, flags};
 mod answers;
 mod arrays;
 mod externs;
+mod handles;
 mod lists;
 mod names;
 mod queries;
@@ -31,7 +32,7 @@ pub use queries::{IS_SUBTYPE, MAY_BE_GIVEN, NO, Query, UNKNOWN, YES};
 use report::{report_no_memory, report_of, report_with_names, write_message};
 pub use report::{NO_FUNCTION, NO_MEMORY, NOT_CHECKED, REFUSED, Report, VALID};
 use std::alloc::Global;
-use wasm_validator::{Flags, WasmFeatures};
+use wasm_validator_handles::validator::{Flags, WasmFeatures};
 
 /// The version of the library, as major · 1,000,000 + minor · 1,000 + patch.
 #[unsafe(no_mangle)]

@@ -2,13 +2,13 @@
 
 ghost use Rattle.std.specs.Prelude.{◌≡◌, ◌++◌, IfOk, OnOk, length, map};
 ghost use Rattle.std.specs.List.{flat_map};
-ghost use Rattle.wasm_validator.specs.WasmValidatorTypes.Shown.{shown_by};
+ghost use Rattle.wasm_validator_handles.specs.WasmValidator.WasmValidatorTypes.Shown.{shown_by};
 ghost use Rattle.ruthvelka_c.specs.Lists.{ReportsTell, bytes_of, answered_on, types_of, functions_of};
 ghost use Rattle.ruthvelka_c.specs.Reports.{Tells, function_ids};
 
 use crate::report::{Answer, NO_FUNCTION, NOT_CHECKED, Report, report_of};
 use std::alloc::{AllocError, Global};
-use wasm_validator::TypesRef;
+use wasm_validator_handles::validator::TypesRef;
 
 /// The bytes of one module of a list. C reads it as `struct ruthvelka_bytes`.
 #[repr(C)]
@@ -38,8 +38,10 @@ fn report_at(answers: &[Answer], place: usize) -> Report
     }
 }
 
-fn not_checked() -> Report
-    ensures { result.verdict ≡ NOT_CHECKED }
+/// The report on a module that was not looked at.
+pub fn not_checked() -> Report
+    ensures verdict { result.verdict ≡ NOT_CHECKED }
+    ensures message { result.message_length ≡ 0 }
 {
     Report {
         offset: 0,

@@ -6,7 +6,7 @@ ghost use Rattle.ruthvelka_c.specs.Arrays.{AreWritten};
 ghost use Rattle.ruthvelka_c.specs.Names.{bits_named, name_in};
 
 use crate::arrays::write_bytes;
-use wasm_validator::{Flags, WasmFeatures};
+use wasm_validator_handles::validator::{Flags, WasmFeatures};
 
 /// The bits of the feature with this name, or none.
 pub fn find_feature(name: &[u8]) -> u64

@@ -4,14 +4,14 @@
 ghost use Rattle.std.specs.Prelude.{◌≡◌, ◌<◌, if◌then◌else◌, length, slice_get, Some};
 ghost use Rattle.std.specs.Bool.{Decides};
 ghost use Rattle.std.specs.Option.{option_map};
-ghost use Rattle.wasm_validator.specs.WasmValidatorTypes.Entities.{entity_of};
-ghost use Rattle.wasm_validator.specs.WasmValidatorTypes.Rows.{all_imports};
-ghost use Rattle.wasm_validator.specs.WasmValidatorTypes.Shown.{shown_by};
+ghost use Rattle.wasm_validator_handles.specs.WasmValidator.WasmValidatorTypes.Entities.{entity_of};
+ghost use Rattle.wasm_validator_handles.specs.WasmValidator.WasmValidatorTypes.Rows.{all_imports};
+ghost use Rattle.wasm_validator_handles.specs.WasmValidator.WasmValidatorTypes.Shown.{shown_by};
 ghost use Rattle.ruthvelka_c.specs.Queries.{AnswersQuery, IsBelow, IsSaid, MayBeGiven, QueriesTell, Says, SaysBelow, SaysGiven};
 ghost use Rattle.ruthvelka_c.specs.Queries.{accepted, exported_at, imported_at, list_behind, type_at, types_at};
 
 use crate::report::Answer;
-use wasm_validator::{CoreTypeId, EntityType, TypeList, Types, TypesRef};
+use wasm_validator_handles::validator::{CoreTypeId, EntityType, TypeList, Types, TypesRef};
 
 /// The kind of a question: is the first type the second one or below it?
 pub const IS_SUBTYPE: u32 = 0;
@@ -106,7 +106,11 @@ fn say_below(first: Option<CoreTypeId>, second: Option<CoreTypeId>, list: Option
     }
 }
 
-fn say_given(first: Option<EntityType>, second: Option<EntityType>, list: Option<&TypeList>) -> u32
+pub fn say_given(
+    first: Option<EntityType>,
+    second: Option<EntityType>,
+    list: Option<&TypeList>,
+) -> u32
     ensures { Says MayBeGiven (option_map entity_of first) (option_map entity_of second)
         (option_map (λ list. list.now) list.entry) result }
 {
@@ -122,7 +126,7 @@ fn say_given(first: Option<EntityType>, second: Option<EntityType>, list: Option
     }
 }
 
-fn judge_below(list: &TypeList, first: CoreTypeId, second: CoreTypeId) -> u32
+pub fn judge_below(list: &TypeList, first: CoreTypeId, second: CoreTypeId) -> u32
     ensures { IsSaid result (IsBelow list.now first.index second.index) }
 {
     say(is_below(list, first, second))
@@ -134,7 +138,7 @@ fn judge_given(list: &TypeList, first: EntityType, second: EntityType) -> u32
     say(may_be_given(list, first, second))
 }
 
-fn say(yes: bool) -> u32
+pub fn say(yes: bool) -> u32
     ensures { result ≡ (if yes then YES else NO) }
 {
     if yes { YES } else { NO }
@@ -216,7 +220,7 @@ fn nth_type(types: &TypesRef<'_>, index: u32) -> Option<CoreTypeId>
     }
 }
 
-fn nth_export(types: &TypesRef<'_>, number: u32) -> Option<EntityType>
+pub fn nth_export(types: &TypesRef<'_>, number: u32) -> Option<EntityType>
     ensures { option_map entity_of result ≡ option_map (λ e. e.1)
         (slice_get (shown_by types.now).spaces.exports number) }
 {
@@ -231,7 +235,7 @@ fn nth_export(types: &TypesRef<'_>, number: u32) -> Option<EntityType>
     None
 }
 
-fn nth_import(types: &TypesRef<'_>, number: u32) -> Option<EntityType>
+pub fn nth_import(types: &TypesRef<'_>, number: u32) -> Option<EntityType>
     ensures { option_map entity_of result ≡ option_map (λ i. i.2)
         (slice_get (all_imports (shown_by types.now).spaces.imports) number) }
 {

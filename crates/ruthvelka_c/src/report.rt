@@ -2,15 +2,15 @@
 
 ghost use Rattle.std.specs.Prelude.{◌≡◌, length};
 ghost use Rattle.std.specs.declared.result.Result.TheVariants.{Err};
-ghost use Rattle.wasm_validator.specs.WasmValidatorCore.declared.error.Error.TheVariants.{OutOfMemory};
+ghost use Rattle.wasm_validator_handles.specs.WasmValidator.WasmValidatorCore.declared.error.Error.TheVariants.{OutOfMemory};
 ghost use Rattle.ruthvelka_c.specs.Arrays.{HasText};
 ghost use Rattle.ruthvelka_c.specs.Reports.{Tells, TellsCounts, TellsRefusal, bits_of, counted, verdict_of};
-ghost use Rattle.wasm_validator.specs.WasmValidatorTypes.Rows.{all_imports};
-ghost use Rattle.wasm_validator.specs.WasmValidatorTypes.Shown.{shown_by};
+ghost use Rattle.wasm_validator_handles.specs.WasmValidator.WasmValidatorTypes.Rows.{all_imports};
+ghost use Rattle.wasm_validator_handles.specs.WasmValidator.WasmValidatorTypes.Shown.{shown_by};
 
 use crate::arrays::write_text;
 use std::alloc::Global;
-use wasm_validator::{Error, Flags, Types, TypesRef, WasmFeatures};
+use wasm_validator_handles::validator::{Error, Flags, Types, TypesRef, WasmFeatures};
 
 /// The verdict where the bytes are a valid module.
 pub const VALID: u32 = 0;
@@ -105,7 +105,8 @@ fn count_exports(types: &TypesRef<'_>) -> u64
     count
 }
 
-fn report_counts(types: &TypesRef<'_>, message_length: u64) -> Report
+/// The report on an accepted module, with no names.
+pub fn report_counts(types: &TypesRef<'_>, message_length: u64) -> Report
     ensures tells { TellsCounts (shown_by types.now).spaces result }
     ensures message { result.message_length ≡ message_length }
     ensures names { result.names_length ≡ 0 }
@@ -128,7 +129,8 @@ fn report_counts(types: &TypesRef<'_>, message_length: u64) -> Report
     }
 }
 
-fn report_refusal(error: &Error, message_length: u64) -> Report
+/// The report on a refusal.
+pub fn report_refusal(error: &Error, message_length: u64) -> Report
     ensures tells { TellsRefusal error.now result }
     ensures message { result.message_length ≡ message_length }
     ensures names { result.names_length ≡ 0 }

@@ -1,7 +1,6 @@
 use Rattle.std.proofs.Common.{◌≡◌, ℕ, ap, subst, ◌∙◌}
-use Rattle.wasm_readers_errors.specs.WasmReadersFeatures.declared.features.WasmFeatures.{WasmFeatures}
-use Rattle.wasm_validator.specs.Verdict.{DecidesModule}
-use Rattle.wasm_validator.specs.Standing.{Standing, fresh}
+use Rattle.wasm_validator_handles.specs.WasmValidator.Verdict.{DecidesModule}
+use Rattle.wasm_validator_handles.specs.WasmValidator.Standing.{Standing, fresh}
 use Rattle.ruthvelka_c.specs.Reports.{flags}
 use Rattle.ruthvelka_c.proofs.Alone.{decides_alone}
 use Rattle.ruthvelka_c.proofs.answers.answer_alone.Goals as goal

@@ -1,7 +1,7 @@
 use Rattle.std.proofs.Common.{◌≡◌, ℕ, List, [], map, ap, subst, ◌∙◌, Bor}
 use Rattle.wasm_spec_rules.specs.FeatureFlags.{features_of}
-use Rattle.wasm_validator.specs.Standing.{Standing, fresh}
-use Rattle.wasm_validator.specs.Headline.{Headline, types_held}
+use Rattle.wasm_validator_handles.specs.WasmValidator.Standing.{Standing, fresh}
+use Rattle.wasm_validator_handles.specs.WasmValidator.Headline.{Headline, types_held}
 use Rattle.ruthvelka_c.specs.Reports.{flags}
 use Rattle.ruthvelka_c.specs.Lists.{bytes_of}
 use Rattle.ruthvelka_c.proofs.answers.answer_list.Goals as goal

@@ -1,5 +1,5 @@
 use Rattle.std.proofs.Common.{map, slice_index}
-use Rattle.wasm_validator.specs.WasmValidatorTypes.Shown.{shown_by}
+use Rattle.wasm_validator_handles.specs.WasmValidator.WasmValidatorTypes.Shown.{shown_by}
 use Rattle.ruthvelka_c.proofs.Writing.{Upto}
 use Rattle.ruthvelka_c.proofs.arrays.write_function_ids.Given as goal
 

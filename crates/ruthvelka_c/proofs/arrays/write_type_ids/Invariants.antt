@@ -1,4 +1,4 @@
-use Rattle.wasm_validator.specs.WasmValidatorTypes.Shown.{shown_by}
+use Rattle.wasm_validator_handles.specs.WasmValidator.WasmValidatorTypes.Shown.{shown_by}
 use Rattle.ruthvelka_c.proofs.Writing.{Upto}
 use Rattle.ruthvelka_c.proofs.arrays.write_type_ids.Given as goal
 

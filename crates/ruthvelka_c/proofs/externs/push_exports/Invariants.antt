@@ -1,5 +1,5 @@
 use Rattle.std.proofs.Common.{◌≡◌, ◌++◌, length}
-use Rattle.wasm_validator.specs.WasmValidatorTypes.Left.{exports_left}
+use Rattle.wasm_validator_handles.specs.WasmValidator.WasmValidatorTypes.Left.{exports_left}
 use Rattle.ruthvelka_c.specs.Externs.{externs_behind, export_rows, names_of}
 use Rattle.ruthvelka_c.proofs.externs.push_exports.Given as goal
 

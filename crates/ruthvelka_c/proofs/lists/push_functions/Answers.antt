@@ -1,5 +1,5 @@
-use Rattle.std.proofs.Common.{ℕ, ◌≡◌, ◌+◌, ◌<◌, length, take, slice_index, arith}
-use Rattle.wasm_validator.specs.WasmValidatorTypes.Shown.{shown_by}
+use Rattle.std.proofs.Common.{◌+◌, take, slice_index, arith}
+use Rattle.wasm_validator_handles.specs.WasmValidator.WasmValidatorTypes.Shown.{shown_by}
 use Rattle.ruthvelka_c.specs.Reports.{function_ids}
 use Rattle.ruthvelka_c.proofs.Pushing.{function_more, joined}
 use Rattle.ruthvelka_c.proofs.lists.push_functions.Goals as goal

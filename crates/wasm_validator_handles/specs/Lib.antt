@@ -1,0 +1,6 @@
+pub use Rattle.wasm_validator.specs as WasmValidator
+pub mod Codes
+pub mod Handle
+pub mod Keeping
+pub mod Values
+pub mod Pairs
