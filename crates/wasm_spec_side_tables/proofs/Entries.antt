@@ -139,7 +139,7 @@ glue :
 glue at None cs c rs es e f = refl
 glue at (Some p) cs c rs es e f = ap (λ xs. xs >>= λ ys. Some (entry at p c ∷ ys)) f ∙ sym (ap (λ ds. ds >>= λ d. es >>= λ xs. Some (entry at p d ∷ xs)) e)
 
-resolved-append : (P : List Place) (es fs : List Entry) → resolved_each P (es ++ fs) ≡ (resolved_each P es >>= λ xs. resolved_each P fs >>= λ ys. Some (xs ++ ys))
+pub resolved-append : (P : List Place) (es fs : List Entry) → resolved_each P (es ++ fs) ≡ (resolved_each P es >>= λ xs. resolved_each P fs >>= λ ys. Some (xs ++ ys))
 resolved-append P [] fs = go (resolved_each P fs)
   where
     go : (o : Option (List Entry)) → o ≡ (o >>= λ ys. Some ys)
