@@ -66,6 +66,7 @@ fn run_wrong_rows<R: Env + Files + AllocGlobal, W: Write, E: Write>(
 fn print_examples<R: Env + Print + AllocGlobal>(rt: &R) -> io::Result<()> {
     if has_option(rt, "--examples")? {
         examples::run(rt)?;
+        examples_in_place::run(rt)?;
     }
     Ok(())
 }

@@ -11,9 +11,9 @@ use Rattle.wasm_operator_validator.specs.Checked.{within}
 use Rattle.wasm_operator_validator.specs.declared.validator.OperatorValidator.{OperatorValidator}
 use Rattle.wasm_spec_side_tables.specs.declared.entry.Entry.{Entry}
 use Rattle.wasm_spec_side_tables.specs.SideTables.{Branch, branches, nesting}
-use Rattle.wasm_spec_side_tables.specs.Building.{Built, Nest, nested, planned, planned_each}
+use Rattle.wasm_spec_side_tables.specs.Building.{Built, planned_each}
 use Rattle.wasm_spec_side_tables.proofs.Lists.{the_same, absent, bind-gives, bind-at}
-use Rattle.wasm_validator_side_table.specs.Shown.{instruction_of, placed, place_in, nested_in, planned_one, planned_in, noted_in}
+use Rattle.wasm_validator_side_table.specs.Shown.{instruction_of, placed, nested_in, planned_one, planned_in, noted_in}
 
 -- a list that is given item by item
 module _ {V : Type 0} where

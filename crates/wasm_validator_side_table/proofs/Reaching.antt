@@ -1,5 +1,5 @@
 -- One instruction more.
-use Rattle.std.proofs.Common.{◌≡◌, ◌≤◌, ◌-◌, refl, sym, ap, subst, ◌∙◌, ℕ, ◌+◌, max, false, List, [], ◌∷◌, ◌++◌, length, Option, Some, None, Ok, arith, option_map}
+use Rattle.std.proofs.Common.{◌≡◌, ◌≤◌, refl, sym, ap, subst, ◌∙◌, ℕ, ◌+◌, max, false, List, [], ◌∷◌, ◌++◌, length, Option, Some, Ok, arith, option_map}
 use Rattle.std.proofs.lemmas.List.{length-drop}
 use Rattle.wasm_readers.specs.Written.{written}
 use Rattle.wasm_readers.specs.WasmReadersBytes.Reader.{SameInput, input, original, position_in, place_of_next, rest}
@@ -10,14 +10,11 @@ use Rattle.wasm_operators.specs.Maps.{map_instruction}
 use Rattle.wasm_operators.specs.SeenOperators.{operator_of}
 use Rattle.wasm_operators.specs.declared.operators.Operator.{Operator}
 use Rattle.wasm_operators.proofs.Renamings.{instruction-renames}
-use Rattle.wasm_operators.proofs.Skipping.{shorter}
 use Rattle.wasm_validator_resources.specs.Answers.{world, written_index}
-use Rattle.wasm_operator_stacks.specs.Seen.{Kept}
 use Rattle.wasm_operator_validator.specs.Typed.{typed_state}
 use Rattle.wasm_operator_validator.specs.Checked.{within}
 use Rattle.wasm_operator_validator.specs.Visited.{StepsAt}
 use Rattle.wasm_operator_validator.specs.declared.validator.OperatorValidator.{OperatorValidator}
-use Rattle.wasm_operator_validator.proofs.Kept.{kept_around, kept_on, same_kept}
 use Rattle.wasm_validator_func.proofs.Stepping.{took}
 use Rattle.wasm_validator_side_table.specs.Shown.{instruction_of, placed, noted_in, steps_to}
 use Rattle.wasm_spec.specs.MatchingTests.{World}

@@ -1,5 +1,5 @@
 -- The table of a whole body.
-use Rattle.std.proofs.Common.{◌≡◌, refl, sym, ap, subst, ◌∙◌, ℕ, ◌+◌, arith, List, [], ◌∷◌, map, length, Option, Some, option_map}
+use Rattle.std.proofs.Common.{◌≡◌, refl, sym, ap, subst, ◌∙◌, ℕ, arith, List, [], ◌∷◌, length, Option, Some}
 use Rattle.wasm_spec_rules.specs.Contexts.{Context}
 use Rattle.wasm_spec_rules.specs.Attempts.{◌>>=◌}
 use Rattle.wasm_spec_rules.specs.FeatureFlags.{features_of}
@@ -12,13 +12,12 @@ use Rattle.wasm_operator_steps.specs.Machine.{State}
 use Rattle.wasm_operator_steps.specs.Steps.{start}
 use Rattle.wasm_validator_resources.specs.Answers.{world}
 use Rattle.wasm_operator_stacks.specs.Seen.{Kept}
-use Rattle.wasm_operator_validator.specs.WasmOperatorControl.Blocks.{function_in}
-use Rattle.wasm_operator_validator.specs.Typed.{typed_state, locals_in, parameter, BeginsBody}
+use Rattle.wasm_operator_validator.specs.Typed.{typed_state, locals_in, BeginsBody}
 use Rattle.wasm_operator_validator.specs.Checked.{within}
 use Rattle.wasm_operator_validator.specs.declared.validator.OperatorValidator.{OperatorValidator}
 use Rattle.wasm_validator_func.specs.Bodies.{locals_from}
 use Rattle.wasm_validator_func.specs.Validated.{listed_in, Goes}
-use Rattle.wasm_spec_side_tables.specs.SideTables.{Placed, side_table, greatest_height}
+use Rattle.wasm_spec_side_tables.specs.SideTables.{side_table, greatest_height}
 use Rattle.wasm_spec_side_tables.specs.Building.{Built, resolved_each, begun, built}
 use Rattle.wasm_spec_side_tables.proofs.Entries.{tables_are_right}
 use Rattle.wasm_validator_side_table.specs.Shown.{shown}

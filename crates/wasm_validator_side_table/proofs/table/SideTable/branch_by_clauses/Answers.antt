@@ -1,4 +1,4 @@
-use Rattle.std.proofs.Common.{◌≡◌, ◌∙◌, Some, rules}
+use Rattle.std.proofs.Common.{◌∙◌, Some, rules}
 use Rattle.wasm_operators.specs.Control.{catch_at}
 use Rattle.wasm_operators.specs.Maps.{map_block}
 use Rattle.wasm_operators.specs.SeenControl.{block_of}

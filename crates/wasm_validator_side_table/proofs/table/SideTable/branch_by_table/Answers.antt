@@ -1,4 +1,4 @@
-use Rattle.std.proofs.Common.{◌≡◌, ◌∙◌, ℕ, map}
+use Rattle.std.proofs.Common.{◌∙◌, ℕ, map}
 use Rattle.wasm_spec.specs.Values.{u32_at}
 use Rattle.wasm_operators.specs.SeenLists.{listed}
 use Rattle.wasm_spec_side_tables.specs.SideTables.{to_label}

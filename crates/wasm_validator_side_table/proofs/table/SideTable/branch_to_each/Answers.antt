@@ -1,4 +1,4 @@
-use Rattle.std.proofs.Common.{◌≡◌, ◌∙◌, ℕ, Some, rules}
+use Rattle.std.proofs.Common.{◌∙◌, ℕ, Some, rules}
 use Rattle.wasm_spec.specs.Values.{u32_at}
 use Rattle.wasm_operators.specs.SeenLists.{GivesFront, items_left}
 use Rattle.wasm_spec_side_tables.specs.SideTables.{to_label}

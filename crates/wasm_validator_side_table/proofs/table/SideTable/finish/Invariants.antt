@@ -1,4 +1,4 @@
-use Rattle.std.proofs.Common.{◌≡◌, ◌≤◌, ◌-◌, length}
+use Rattle.std.proofs.Common.{◌≡◌, ◌-◌, length}
 use Rattle.wasm_validator_side_table.proofs.Resolving.{Resolves}
 use Rattle.wasm_validator_side_table.proofs.table.SideTable.finish.Given as goal
 

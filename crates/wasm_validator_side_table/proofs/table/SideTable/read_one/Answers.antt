@@ -1,4 +1,4 @@
-use Rattle.std.proofs.Common.{◌≡◌, rules}
+use Rattle.std.proofs.Common.{rules}
 use Rattle.wasm_readers.specs.WasmReadersBytes.Reader.{SameInput}
 use Rattle.wasm_validator_side_table.specs.Shown.{shown}
 use Rattle.wasm_validator_side_table.proofs.Reaching.{advances_is}
