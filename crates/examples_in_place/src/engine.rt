@@ -165,35 +165,43 @@ fn control<A: Allocator>(
     Ok(Next::Operator)
 }
 
+/// Gives the value of a local.
+fn get_local<A: Allocator>(store: &mut Store<A>, base: usize, index: u32) -> Result<(), Stopped> {
+    match store.values.get(base.saturating_add(index as usize)) {
+        Some(value) => {
+            let value = *value;
+            store.push(value)
+        }
+        None => Err(Stopped::Stuck),
+    }
+}
+
+/// Takes a value for a local.
+fn set_local<A: Allocator>(store: &mut Store<A>, base: usize, index: u32) -> Result<(), Stopped> {
+    let value = store.pop()?;
+    match store.values.get_mut(base.saturating_add(index as usize)) {
+        Some(local) => {
+            *local = value;
+            Ok(())
+        }
+        None => Err(Stopped::Stuck),
+    }
+}
+
 /// An operator on a local.
 fn local<A: Allocator>(
     store: &mut Store<A>,
     base: usize,
     op: &VariableOperator,
 ) -> Result<(), Stopped> {
-    let (index, is_set, is_given) = match *op {
-        VariableOperator::LocalGet { local_index } => (local_index, false, true),
-        VariableOperator::LocalSet { local_index } => (local_index, true, false),
-        VariableOperator::LocalTee { local_index } => (local_index, true, true),
-        _ => return Err(Stopped::Unknown),
-    };
-    let place = base.saturating_add(index as usize);
-    if is_set {
-        let value = store.pop()?;
-        match store.values.get_mut(place) {
-            Some(local) => *local = value,
-            None => return Err(Stopped::Stuck),
+    match op {
+        VariableOperator::LocalGet { local_index } => get_local(store, base, *local_index),
+        VariableOperator::LocalSet { local_index } => set_local(store, base, *local_index),
+        VariableOperator::LocalTee { local_index } => {
+            set_local(store, base, *local_index)?;
+            get_local(store, base, *local_index)
         }
-    }
-    if !is_given {
-        return Ok(());
-    }
-    match store.values.get(place) {
-        Some(value) => {
-            let value = *value;
-            store.push(value)
-        }
-        None => Err(Stopped::Stuck),
+        _ => Err(Stopped::Unknown),
     }
 }
 
