@@ -81,7 +81,6 @@ GROUPS = [
         "Bodies",
         ["wasm_validator_func", "wasm_operator_validator", "wasm_operator_stacks", "wasm_operator_checks", "wasm_operator_control/not_taken"],
     ),
-    ("validate", "Side tables of bodies", ["wasm_validator_side_table", "wasm_spec_side_tables"]),
     ("validate", "What bodies and expressions look up", ["wasm_validator_resources", "wasm_validator_core_resources", "wasm_validator_references"]),
     (
         "validate",
