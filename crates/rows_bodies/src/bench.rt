@@ -10,9 +10,12 @@ use std::io::{self, Write};
 use std::rt::Files;
 use std::time::{Clock, Instant};
 use wasm_operators::read_operator;
+use wasm_parser::FunctionBody;
 use wasm_readers::BinaryReader;
 use wasm_readers_errors::WasmFeatures;
 use wasm_readers_types::{FuncType, GlobalType, MemoryType, RefType, SubType, TableType, ValType};
+use wasm_validator_side_table::validator_func::{FuncToValidate, FuncValidatorAllocations};
+use wasm_validator_side_table::{SideTable, validate_with_side_table};
 
 /// The declarations of locals that the operators count on: 150 of type i32 and 150 of type i64.
 const FRONT: [u8; 7] = [2, 0x96, 1, 0x7f, 0x96, 1, 0x7e];
@@ -64,9 +67,26 @@ const MEMORY: MemoryType = MemoryType {
     page_size_log2: None,
 };
 
+/// How many entries the side table of the body of function 0 has, if the body is valid in the module.
+fn count_entries(alloc: Global, module: &OwnModule<'_, Global>, bytes: &[u8]) -> Option<usize> {
+    let function = FuncToValidate {
+        resources: module,
+        index: 0,
+        ty: 0,
+        features: WasmFeatures::STANDARD,
+    };
+    let body = FunctionBody::new(BinaryReader::new(bytes, 0));
+    let memory = FuncValidatorAllocations::new(alloc);
+    let mut table = SideTable::new(alloc);
+    match validate_with_side_table(function, &body, memory, &mut table) {
+        Ok(_memory) => Some(table.entries().len()),
+        Err(_) => None,
+    }
+}
+
 /// Whether the body of function 0 is valid in a module of four functions, a table, a memory and three
-/// globals.
-fn is_valid(alloc: Global, bytes: &[u8]) -> Result<bool, AllocError> {
+/// globals; and how many entries its side table has, where that is asked for, and else 0.
+fn check(alloc: Global, bytes: &[u8], makes_table: bool) -> Result<Option<usize>, AllocError> {
     let mut types = Vec::new(alloc);
     types.push(SubType::func(alloc, signature(alloc)?, false))?;
     let parts = OwnParts {
@@ -80,9 +100,15 @@ fn is_valid(alloc: Global, bytes: &[u8]) -> Result<bool, AllocError> {
         data_count: None,
         references: &[],
     };
-    match OwnModule::new(parts) {
-        Some(module) => Ok(validate(alloc, &module, WasmFeatures::STANDARD, (0, 0), bytes).is_ok()),
-        None => Ok(false),
+    let Some(module) = OwnModule::new(parts) else {
+        return Ok(None);
+    };
+    if makes_table {
+        return Ok(count_entries(alloc, &module, bytes));
+    }
+    match validate(alloc, &module, WasmFeatures::STANDARD, (0, 0), bytes) {
+        Ok(()) => Ok(Some(0)),
+        Err(_) => Ok(None),
     }
 }
 
@@ -129,6 +155,32 @@ pub fn time_body<R: Env + Files + Clock + AllocGlobal, W: Write, E: Write>(
     print_time(rt, &body, out, err)
 }
 
+/// Validates the body of the operators in the files behind `--table`, if there are any, and makes its
+/// side table. It prints how many entries that has, and to `err` how long both took, and how long
+/// validation takes alone.
+pub fn time_table<R: Env + Files + Clock + AllocGlobal, W: Write, E: Write>(
+    rt: &R,
+    out: &mut W,
+    err: &mut E,
+) -> io::Result<()> {
+    let paths = words_behind(rt, "--table")?;
+    if paths.is_empty() {
+        return Ok(());
+    }
+    let body = read_body(rt, &paths)?;
+    let start = Instant::now(rt)?;
+    let entries = check(rt.alloc(), &body, true);
+    let both = start.elapsed(rt)?;
+    match entries {
+        Ok(Some(count)) => writeln!(out, "{count} entries")?,
+        _ => writeln!(out, "not valid")?,
+    }
+    let start = Instant::now(rt)?;
+    let _verdict = check(rt.alloc(), &body, false);
+    let alone = start.elapsed(rt)?;
+    writeln!(err, "{} ns, {} ns alone", both.as_nanos(), alone.as_nanos())
+}
+
 /// Validates this body, and prints how many operators it has, whether it is valid, and how long that
 /// took.
 fn print_time<R: Clock + AllocGlobal, W: Write, E: Write>(
@@ -138,8 +190,8 @@ fn print_time<R: Clock + AllocGlobal, W: Write, E: Write>(
     err: &mut E,
 ) -> io::Result<()> {
     let start = Instant::now(rt)?;
-    let verdict = match is_valid(rt.alloc(), body) {
-        Ok(true) => "ok",
+    let verdict = match check(rt.alloc(), body, false) {
+        Ok(Some(_)) => "ok",
         _ => "not valid",
     };
     let time = start.elapsed(rt)?;

@@ -10,7 +10,7 @@ mod row;
 mod sample;
 mod types;
 
-pub use bench::time_body;
+pub use bench::{time_body, time_table};
 pub use items::print_items;
 use row::{BodyRows, NAME};
 use rows_files::{STATUS_RIGHT, WrongRows, files_behind, print_error, run};

@@ -8,7 +8,7 @@ use std::alloc::{AllocError, Global};
 use wasm_parser::FunctionBody;
 use wasm_readers::{BinaryReader, Error};
 use wasm_readers_errors::WasmFeatures;
-use wasm_validator_func::{FuncToValidate, FuncValidatorAllocations};
+use wasm_validator_side_table::validator_func::{FuncToValidate, FuncValidatorAllocations};
 
 /// What messages about rows of bodies and operators begin with.
 pub const NAME: &str = "rows of bodies";

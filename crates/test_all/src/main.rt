@@ -7,6 +7,8 @@
 //! - `--body FILE..`: validates one body, which is made of the operators in the files, one file behind
 //!   the other, and prints how many they are and whether it is valid; and to standard error how long
 //!   that took;
+//! - `--table FILE..`: makes the side table of such a body too, and prints how many entries it has; and
+//!   to standard error how long both took, and validation alone;
 //! - `--items FILE..`: reads the modules in the files and no more, and prints how many items their
 //!   globals, element and data segments are;
 //! - `--tests`: the tests by hand, as `bin/test` builds this program, and none elsewhere;
@@ -15,7 +17,7 @@
 
 mod tests;
 
-use rows_bodies::{print_items, time_body};
+use rows_bodies::{print_items, time_body, time_table};
 use rows_files::{has_option, print_error};
 use std::env::Env;
 use std::io::{self, Write};
@@ -45,6 +47,7 @@ fn run<R: Env + Files + Clock + Print + AllocGlobal, W: Write, E: Write>(
     let bodies = rows_bodies::run_rows(rt, out, err)?;
     let rows = modules.max(bodies).max(run_wrong_rows(rt, out, err)?);
     time_body(rt, out, err)?;
+    time_table(rt, out, err)?;
     print_items(rt, out)?;
     let tests = run_tests(rt, out)?;
     print_examples(rt)?;
@@ -66,6 +69,7 @@ fn run_wrong_rows<R: Env + Files + AllocGlobal, W: Write, E: Write>(
 fn print_examples<R: Env + Print + AllocGlobal>(rt: &R) -> io::Result<()> {
     if has_option(rt, "--examples")? {
         examples::run(rt)?;
+        examples_in_place::run(rt)?;
     }
     Ok(())
 }

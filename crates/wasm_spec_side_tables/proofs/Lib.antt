@@ -1,0 +1,4 @@
+pub mod Lists
+pub mod Nesting
+pub mod Linking
+pub mod Entries

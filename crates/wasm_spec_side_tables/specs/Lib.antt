@@ -1,0 +1,3 @@
+pub mod SideTables
+pub mod Building
+pub mod Laws

@@ -1,0 +1,4 @@
+pub mod Planning
+pub mod Resolving
+pub mod Reaching
+pub mod Whole

@@ -1,0 +1,14 @@
+use Rattle.std.proofs.Common.{◌≡◌, ◌-◌, length}
+use Rattle.wasm_validator_side_table.proofs.Resolving.{Resolves}
+use Rattle.wasm_validator_side_table.proofs.table.SideTable.finish.Given as goal
+
+abbrev pub invariant-entries : goal.invariant-entries
+invariant-entries g l = record {
+  resolves : Resolves l.initial.self.places.items l.i l.initial.self.entries.items l.self.entries.items;
+  places : l.self.places.items ≡ l.initial.self.places.items;
+  operands : l.self.operands ≡ l.initial.self.operands;
+  locals : l.self.locals ≡ l.initial.self.locals;
+}
+
+abbrev pub decreases-entries : goal.decreases-entries
+decreases-entries g l = length l.self.entries.items - l.i

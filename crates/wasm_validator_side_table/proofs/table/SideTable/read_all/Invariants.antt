@@ -1,0 +1,23 @@
+use Rattle.std.proofs.Common.{◌≡◌, false, length}
+use Rattle.wasm_readers.specs.WasmReadersBytes.Reader.{SameInput, place_of_next, rest}
+use Rattle.wasm_validator_resources.specs.Answers.{world}
+use Rattle.wasm_operator_stacks.specs.Seen.{Kept}
+use Rattle.wasm_operator_validator.specs.Typed.{typed_state}
+use Rattle.wasm_operator_validator.specs.Checked.{within}
+use Rattle.wasm_validator_side_table.specs.Shown.{shown}
+use Rattle.wasm_validator_side_table.specs.Tables.{Reaches}
+use Rattle.wasm_validator_side_table.proofs.table.SideTable.read_all.Given as goal
+
+abbrev pub invariant-operators : goal.invariant-operators
+invariant-operators g l = record {
+  reaches : Reaches (world (g.T.WasmModuleResources.context l.initial.validator.resources)) (within l.initial.validator.validator (g.T.WasmModuleResources.context l.initial.validator.resources))
+      (typed_state l.initial.validator.validator) (shown l.initial.self) (place_of_next l.initial.reader) (rest l.initial.reader)
+      (typed_state l.validator.validator) (shown l.self) l.self.operands (place_of_next l.reader) (rest l.reader);
+  kept : Kept l.initial.validator.validator.stacks l.validator.validator.stacks;
+  going : l.validator.validator.failed ≡ false;
+  resources : l.validator.resources ≡ l.initial.validator.resources;
+  same : SameInput l.initial.reader l.reader;
+}
+
+abbrev pub decreases-operators : goal.decreases-operators
+decreases-operators g l = length (rest l.reader)

@@ -1,0 +1,106 @@
+//! Blocks that open, turn and close.
+
+ghost use Rattle.std.specs.Prelude.{◌≡◌, if◌then◌else◌, slice_set, IfSome, OnOk, Some};
+ghost use Rattle.wasm_spec_side_tables.specs.SideTables.{opens, opens_loop, turns, closes};
+ghost use Rattle.wasm_validator_side_table.specs.Shown.{shown, place_in, nested_in};
+
+use crate::counts::narrow;
+use crate::error::SideTableError;
+use crate::table::SideTable;
+use std::alloc::Allocator;
+use wasm_spec_side_tables::{OpenBlock, Place};
+
+/// Fills in the place of a number, if there is such a place.
+fn fill<A: Allocator>(places: &mut Vec<Place, A>, number: u32, place: Place)
+    ensures { places.new.items ≡ slice_set places.old.items number place }
+{
+    if (number as usize) < places.len() {
+        places[number as usize] = place;
+    }
+}
+
+impl<A: Allocator> SideTable<A> {
+    /// The place behind an instruction.
+    fn place_behind(&self, behind: u32) -> Option<Place>
+        ensures { IfSome result (λ p. p ≡ place_in behind (shown self.now)) }
+    {
+        let next = narrow(self.entries.len())?;
+        Some(Place {
+            offset: behind,
+            next,
+        })
+    }
+
+    /// A block opens behind this offset.
+    pub(crate) fn open_block(&mut self, is_loop: bool, behind: u32) -> Result<(), SideTableError>
+        ensures nested { OnOk result (nested_in (if is_loop then opens_loop else opens) behind (shown self.old)
+            ≡ Some (shown self.new)) }
+        ensures operands { OnOk result (self.new.operands ≡ self.old.operands) }
+    {
+        let Some(place) = self.place_behind(behind) else {
+            return Err(SideTableError::TooLarge);
+        };
+        let Some(label) = narrow(self.places.len()) else {
+            return Err(SideTableError::TooLarge);
+        };
+        let Some(other) = label.checked_add(1) else {
+            return Err(SideTableError::TooLarge);
+        };
+        let block = OpenBlock {
+            label,
+            other,
+            is_loop,
+        };
+        if self.places.push(place).is_err() || self.places.push(place).is_err() {
+            return Err(SideTableError::OutOfMemory);
+        }
+        match self.blocks.push(block) {
+            Ok(()) => Ok(()),
+            Err(_) => Err(SideTableError::OutOfMemory),
+        }
+    }
+
+    /// A block turns to its `else`, or to a `catch`, behind this offset.
+    pub(crate) fn turn_block(&mut self, behind: u32) -> Result<(), SideTableError>
+        ensures nested { OnOk result (nested_in turns behind (shown self.old) ≡ Some (shown self.new)) }
+        ensures operands { OnOk result (self.new.operands ≡ self.old.operands) }
+    {
+        let Some(place) = self.place_behind(behind) else {
+            return Err(SideTableError::TooLarge);
+        };
+        let Some(block) = self.blocks.pop() else {
+            return Err(SideTableError::TooLarge);
+        };
+        if block.is_loop {
+            return Err(SideTableError::TooLarge);
+        }
+        fill(&mut self.places, block.other, place);
+        let turned = OpenBlock {
+            label: block.label,
+            other: block.label,
+            is_loop: false,
+        };
+        match self.blocks.push(turned) {
+            Ok(()) => Ok(()),
+            Err(_) => Err(SideTableError::OutOfMemory),
+        }
+    }
+
+    /// A block closes behind this offset.
+    pub(crate) fn close_block(&mut self, behind: u32) -> Result<(), SideTableError>
+        ensures nested { OnOk result (nested_in closes behind (shown self.old) ≡ Some (shown self.new)) }
+        ensures operands { OnOk result (self.new.operands ≡ self.old.operands) }
+    {
+        let Some(place) = self.place_behind(behind) else {
+            return Err(SideTableError::TooLarge);
+        };
+        let Some(block) = self.blocks.pop() else {
+            return Err(SideTableError::TooLarge);
+        };
+        if !block.is_loop {
+            fill(&mut self.places, block.label, place);
+            fill(&mut self.places, block.other, place);
+        }
+        Ok(())
+    }
+}

@@ -1,0 +1,100 @@
+//! Tables, while they are made and once they are.
+
+ghost use Rattle.std.specs.Prelude.{◌≡◌, ◌++◌, ◌∷◌, [], OnOk};
+ghost use Rattle.wasm_validator_side_table.specs.Shown.{shown};
+ghost use Rattle.wasm_spec_side_tables.specs.Building.{begun};
+
+use crate::error::SideTableError;
+use std::alloc::{Allocator, Global};
+use wasm_operator_stacks::Stack;
+use wasm_spec_side_tables::{Entry, OpenBlock, Place};
+
+/// A side table, and the memory in which the next one is made.
+pub struct SideTable<A: Allocator = Global> {
+    pub(crate) entries: Vec<Entry, A>,
+    pub(crate) places: Vec<Place, A>,
+    pub(crate) blocks: Stack<OpenBlock, A>,
+    pub(crate) operands: u32,
+    pub(crate) locals: u32,
+}
+
+// By hand: so each way out takes one call for it, and not a step for each field.
+impl<A: Allocator> Drop for SideTable<A> {
+    fn drop(self) {
+        let SideTable {
+            entries: _,
+            places: _,
+            blocks: _,
+            operands: _,
+            locals: _,
+        } = self;
+    }
+}
+
+impl<A: Allocator + Copy> SideTable<A> {
+    /// No memory yet.
+    pub fn new(alloc: A) -> SideTable<A> {
+        SideTable {
+            entries: Vec::new(alloc),
+            places: Vec::new(alloc),
+            blocks: Stack::new(alloc),
+            operands: 0,
+            locals: 0,
+        }
+    }
+}
+
+impl<A: Allocator> SideTable<A> {
+    /// The entries, in the order of the branches.
+    pub fn entries(&self) -> &[Entry]
+        ensures { result.now ≡ self.now.entries.items }
+    {
+        self.entries.as_slice()
+    }
+
+    /// The greatest number of operands that the body has at once.
+    pub fn operands(&self) -> u32
+        ensures { result ≡ self.now.operands }
+    {
+        self.operands
+    }
+
+    /// How many locals the body has, parameters included.
+    pub fn locals(&self) -> u32
+        ensures { result ≡ self.now.locals }
+    {
+        self.locals
+    }
+
+    /// Makes room for the table of another body.
+    ///
+    /// # Errors
+    ///
+    /// Answers want of memory.
+    pub fn begin(&mut self) -> Result<(), SideTableError>
+        ensures begun { OnOk result (shown self.new ≡ begun) }
+        ensures low { OnOk result (self.new.operands ≡ 0) }
+    {
+        self.entries.clear();
+        self.places.clear();
+        self.blocks.truncate(0);
+        self.operands = 0;
+        self.locals = 0;
+        self.open_block(false, 0)
+    }
+
+    /// One entry more.
+    pub(crate) fn add(&mut self, entry: Entry) -> Result<(), SideTableError>
+        ensures added { OnOk result (shown self.new ≡ record {
+          entries = (shown self.old).entries
+              ++ entry ∷ [];
+          nest = (shown self.old).nest;
+        }) }
+        ensures operands { OnOk result (self.new.operands ≡ self.old.operands) }
+    {
+        match self.entries.push(entry) {
+            Ok(()) => Ok(()),
+            Err(_) => Err(SideTableError::OutOfMemory),
+        }
+    }
+}
