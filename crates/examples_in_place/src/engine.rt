@@ -1,10 +1,13 @@
-//! The interpreter. It runs bodies in place, as they stand in their bytes, over their side tables: a branch that is taken moves the operands that its entry keeps over those that it drops,
-//! and goes on where the entry says; one that isn't goes on with the next entry.
+//! The interpreter. It runs bodies in place, as they stand in their bytes, over their side tables: a
+//! branch that is taken moves the operands that its entry keeps over those that it drops, and goes on
+//! where the entry says; one that isn't goes on with the next entry.
 //!
 //! It tests no types and no heights, since the bodies are valid. Where a table or a stack is read
 //! Rattle wants to see that the item is there: the contracts of the table don't say that for the
 //! operands that a run has, so each such place answers `Stopped::Stuck`, which no valid body meets.
 //! What a host has to test is left: addresses, and how long a run may take.
+
+ghost use Rattle.std.specs.Prelude.{◌≡◌, ◌++◌, ◌∷◌, [], IfOk, OnOk};
 
 use crate::loader::{Code, Loaded};
 use crate::operators::{compute, load_number, store_number};
@@ -63,14 +66,22 @@ pub struct Store<A: Allocator> {
 }
 
 impl<A: Allocator> Store<A> {
-    pub fn push(&mut self, value: u64) -> Result<(), Stopped> {
+    /// Puts a value on top.
+    pub fn push(&mut self, value: u64) -> Result<(), Stopped>
+        ensures pushed { OnOk result (self.new.values.items ≡ self.old.values.items ++ value ∷ []) }
+        ensures memory { self.new.memory ≡ self.old.memory }
+    {
         match self.values.push(value) {
             Ok(()) => Ok(()),
             Err(_) => Err(Stopped::OutOfMemory),
         }
     }
 
-    pub fn pop(&mut self) -> Result<u64, Stopped> {
+    /// Takes the value on top.
+    pub fn pop(&mut self) -> Result<u64, Stopped>
+        ensures popped { IfOk result (λ value. self.old.values.items ≡ self.new.values.items ++ value ∷ []) }
+        ensures memory { self.new.memory ≡ self.old.memory }
+    {
         match self.values.pop() {
             Some(value) => Ok(value),
             None => Err(Stopped::Stuck),
