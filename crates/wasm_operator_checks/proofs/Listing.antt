@@ -57,4 +57,6 @@ all_taken W [] (suc n) s t e b = e
 all_taken W (v ∷ vs) zero s t e b = e
 all_taken W (v ∷ vs) (suc n) s t e b = rw (all_taken W vs n s t e b) (one_popped W (val_of v) t t bottom b refl)
 
+pub ruleset last_looks = (all_taken)
+
 pub ruleset list_checks = (next_popped, next_not_popped, all_taken)

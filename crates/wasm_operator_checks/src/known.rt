@@ -2,29 +2,12 @@
 
 ghost use Rattle.std.specs.Prelude.{◌≡◌, ◌≤◌, ◌+◌, true, length, map, OnOk, OnErr};
 ghost use Rattle.wasm_validator_resources.specs.WasmReadersTypes.WasmReadersValues.SeenValues.{val_of};
-ghost use Rattle.wasm_operator_stacks.specs.WasmOperatorSteps.Machine.{known, push_vals};
+ghost use Rattle.wasm_operator_stacks.specs.WasmOperatorSteps.Machine.{push_vals};
 ghost use Rattle.wasm_operator_stacks.specs.Seen.{state_of, below, Kept};
-ghost use Rattle.wasm_operator_stacks.specs.SeenOperands.{operand_of};
 
 use std::alloc::{AllocError, Allocator};
-use wasm_operator_stacks::{Stacks, TypeWord, Word};
+use wasm_operator_stacks::{Stacks, are_known};
 use wasm_validator_resources::readers_types::ValType;
-
-/// Whether these operands are known to be of these types, place by place.
-#[inline(never)]
-#[tactic(auto, using(crate::proofs::Knowing::lists))]
-fn are_of(operands: &[Word], types: &[ValType]) -> bool
-    requires { length operands.now ≡ length types.now }
-    ensures { result ≡ true
-        → map operand_of operands.now ≡ map known (map val_of types.now) }
-{
-    'comparing: for i in 0..types.len() {
-        if !operands[i].is(TypeWord::new(types[i])) {
-            return false;
-        }
-    }
-    true
-}
 
 /// Whether operands that are known to be of these types, the last one on top, stand below so many.
 #[inline(always)]
@@ -43,7 +26,7 @@ pub fn has_known<A: Allocator>(stacks: &Stacks<A>, taken: usize, types: &[ValTyp
     if count - taken < types.len() {
         return false;
     }
-    are_of(stacks.operands.slice(taken, types.len()), types)
+    are_known(stacks.operands.slice(taken, types.len()), types)
 }
 
 /// Gives operands of these types in the place of so many, the last one on top. Those that are known

@@ -120,6 +120,43 @@ pub fn look_many<A: Allocator, T: WasmModuleResources>(
     Some(taken + types.len())
 }
 
+/// Looks, where code isn't reached, whether all operands of the innermost frame below so many that
+/// are taken already are known to be of the last of these types, and how many are taken with them.
+#[inline(never)]
+#[tactic(auto, using(crate::proofs::Listing::last_looks))]
+fn look_last<A: Allocator, T: WasmModuleResources>(
+    stacks: &Stacks<A>,
+    resources: &T,
+    taken: usize,
+    types: &[ValType],
+) -> Option<usize>
+    ensures popped { IfSome result (λ k. pop_vals (world (T.context resources.now))
+        (map val_of types.now) (below taken (state_of stacks.now))
+        ≡ Some (below k (state_of stacks.now))) }
+    ensures within { IfSome result (λ k. k ≤ length (state_of stacks.now).operands) }
+{
+    if !stacks.frame.unreachable {
+        return None;
+    }
+    let height = stacks.frame.height;
+    let count = stacks.operands.len();
+    if count < height {
+        return None;
+    }
+    if count - height < taken {
+        return None;
+    }
+    let left = count - height - taken;
+    if types.len() < left {
+        return None;
+    }
+    let all = look_many(stacks, resources, taken, &types[types.len() - left..])?;
+    if !is_all_taken(stacks, all) {
+        return None;
+    }
+    Some(all)
+}
+
 /// Whether operands of these types, the last one on top, are below so many that are taken already,
 /// and how many are taken with them.
 #[tactic(auto, using(crate::proofs::Listing::list_checks))]
@@ -134,6 +171,9 @@ pub fn check_many<A: Allocator, T: WasmModuleResources>(
         (below taken (state_of stacks.now))) (state_of stacks.now) }
 {
     if let Some(taken) = look_many(stacks, resources, taken, types) {
+        return Ok(taken);
+    }
+    if let Some(taken) = look_last(stacks, resources, taken, types) {
         return Ok(taken);
     }
     let count = types.len();

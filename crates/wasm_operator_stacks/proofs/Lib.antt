@@ -9,3 +9,5 @@ pub mod Wording
 pub mod Framing
 pub mod Pushing
 pub mod Slicing
+pub mod Knowing
+pub mod Raising

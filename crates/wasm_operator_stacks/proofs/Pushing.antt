@@ -72,4 +72,12 @@ sunk_within vs ops ws n k e f h =
     let u = length-map vs val_of in
     omega arith
 
-pub ruleset sinks = (sunk, sunk_within, length-map)
+-- where none are below nothing sinks
+none_dropped : {X : Type 0} (xs : List X) → drop 0 xs ≡ xs
+none_dropped [] = refl
+none_dropped (x ∷ xs) = refl
+
+pub unsunk : (vs : List ValType) (ops zs : List Word) (k : ℕ) → k ≡ 0 → map operand_of zs ≡ pushed_onto (map val_of vs) (map operand_of ops) → map operand_of zs ≡ pushed_onto (map val_of vs) (drop k (map operand_of ops))
+unsunk vs ops zs k e f = f ∙ ap (pushed_onto (map val_of vs)) (sym (none_dropped (map operand_of ops))) ∙ ap (λ n. pushed_onto (map val_of vs) (drop n (map operand_of ops))) (sym e)
+
+pub ruleset sinks = (sunk, sunk_within, unsunk, length-map)

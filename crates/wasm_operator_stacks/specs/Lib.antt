@@ -8,3 +8,4 @@ pub mod Words
 pub mod SeenOperands
 pub mod SeenBlocks
 pub mod Seen
+pub mod KnownLists

@@ -129,6 +129,9 @@ impl<A: Allocator> Stacks<A> {
         ensures open { self.new.is_open ≡ self.old.is_open }
         ensures same { Kept self.old self.new }
     {
+        if self.operands.raise(types) {
+            return Ok(());
+        }
         let count = self.operands.len();
         match push_each(&mut self.operands, types) {
             Ok(()) => Ok(()),
@@ -152,7 +155,9 @@ impl<A: Allocator> Stacks<A> {
         ensures same { Kept self.old self.new }
     {
         self.push_many(types)?;
-        self.operands.sink(types.len(), taken);
+        if taken > 0 {
+            self.operands.sink(types.len(), taken);
+        }
         Ok(())
     }
 
