@@ -119,6 +119,14 @@ fn all_is_given_back_once_and_each_refusal_is_told() {
 }
 
 #[test]
+fn a_validator_that_has_no_memory_says_so_and_begins_later() {
+    let mut validator = Validator::new_in(&OVER.0);
+    ARENA.with(|it| it.borrow_mut().refuse_at = Some(0));
+    assert!(validator.validate_all(FUNCTIONS).unwrap_err().is_out_of_memory());
+    assert!(validator.validate_all(FUNCTIONS).is_ok());
+}
+
+#[test]
 fn a_report_that_tells_nothing_is_no_module() {
     // types that hold nothing have no ids
     let outcome = sys::Outcome { status: sys::STATUS_VALID, ..sys::Outcome::default() };

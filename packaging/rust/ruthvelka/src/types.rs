@@ -219,9 +219,6 @@ impl Types {
             // SAFETY: both handles are the library's own, on their thread, and two places.
             unsafe { sys::ruthvelka_types_entity_may_be_given(self.kept.place.get(), export, wanted, import) == sys::YES }
         };
-        if self.kept.told != importer.kept.told {
-            return false;
-        }
         if !Rc::ptr_eq(&self.kept, &importer.kept) {
             return ask(importer.kept.place.get());
         }
