@@ -416,7 +416,7 @@ def try_wheel(room, wanted, path):
     write(room.path("python/test_ruthvelka.py"), source("packaging/python/tests/test_ruthvelka.py"))
     ran = room.run(room.path("venv/bin/python"), "-m", "unittest", "-v", "test_ruthvelka", at="python")
     tests = re.findall(r"(?m)^Ran (\d+) tests", ran.stdout)
-    report("wheel: its tests pass", problem(ran), "" if tests and int(tests[0]) >= 15 else "there are fewer")
+    report("wheel: its tests pass", problem(ran), "" if tests and int(tests[0]) >= 30 else "there are fewer")
     place = room.run("venv/bin/python", "-c", "import ruthvelka; print(ruthvelka.__file__, ruthvelka.__version__)").stdout.split()
     is_there = len(place) == 2 and place[0].startswith(room.path("venv/")) and f"-{place[1]}-" in os.path.basename(path)
     report("wheel: what is imported is what was installed, of its version", "" if is_there else place)
@@ -437,7 +437,7 @@ def try_rust(room, wanted, path):
     wanted.compare_gate(room, "Rust, the example of its README", "rust/mine/target/debug/mine")
     ran = room.run("cargo", "test", "--offline", at="rust/ruthvelka-rust/ruthvelka")
     tests = sum(map(int, re.findall(r"(?m)^test result: ok. (\d+) passed", ran.stdout)))
-    report("Rust: its tests pass", problem(ran), "" if tests >= 12 else f"there are {tests}")
+    report("Rust: its tests pass", problem(ran), "" if tests >= 22 else f"there are {tests}")
     tree = room.run("cargo", "tree", "--offline", "--prefix", "none", at="rust/ruthvelka-rust/ruthvelka").stdout.split("\n")[:-1]
     report("Rust: it depends on ruthvelka-sys alone", "" if [it.split()[0] for it in tree] == ["ruthvelka", "ruthvelka-sys"] else tree)
 
@@ -456,7 +456,7 @@ def try_go(room, wanted, path):
     wanted.compare_gate(room, "Go, the example of its README", "go/mine/gate")
     ran = room.run("go", "test", "-v", ".", at="go/ruthvelka-go")
     tests = len(re.findall(r"(?m)^--- PASS", ran.stdout))
-    report("Go: its tests pass", problem(ran), "" if tests >= 10 else f"there are {tests}")
+    report("Go: its tests pass", problem(ran), "" if tests >= 20 else f"there are {tests}")
     report("Go: go vet finds nothing", problem(room.run("go", "vet", ".", at="go/ruthvelka-go")))
 
 

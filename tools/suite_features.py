@@ -46,6 +46,14 @@ class Scan:
         self.results, self.imported_globals, self.counts, self.mutable = [], 0, {}, []
         self.in_types = False
 
+    def state(self):
+        """What is known up to here, but for the bytes."""
+        return self.at, set(self.found), list(self.results), self.imported_globals, dict(self.counts), list(self.mutable)
+
+    def take(self, state):
+        self.at, found, results, self.imported_globals, counts, mutable = state
+        self.found, self.results, self.counts, self.mutable = set(found), list(results), dict(counts), list(mutable)
+
     def need(self, *names):
         self.found.update(names)
 
@@ -385,11 +393,35 @@ class Scan:
         self.at = end
 
 
-def features_of(module):
-    """The proposals that the module uses, in the order of the alphabet, and whether it could be read to its end."""
+# What was found before the bodies of a module, by the bytes up to there: most bodies of rows stand behind the same ones.
+FRONTS = {}
+
+
+def start_of_bodies(module):
+    """Where the section of bodies begins, or 0 where there is none or the sections before it can't be told apart."""
     it = Scan(module)
     try:
         while it.at < len(module):
+            start = it.at
+            if it.byte() == 10:
+                return start
+            size = it.number()
+            it.at += size
+    except (Bad, IndexError):
+        pass
+    return 0
+
+
+def features_of(module):
+    """The proposals that the module uses, in the order of the alphabet, and whether it could be read to its end."""
+    bodies = start_of_bodies(module)
+    it = Scan(module)
+    try:
+        if bodies and module[:bodies] in FRONTS:
+            it.take(FRONTS[module[:bodies]])
+        while it.at < len(module):
+            if it.at == bodies:
+                FRONTS.setdefault(module[:bodies], it.state())
             id = it.byte()
             size = it.number()
             it.section(id, it.at + size)

@@ -4,6 +4,7 @@
 usage: tools/write_docs.py               writes docs/API.md, docs/api/, docs/LIMITS.md, docs/SPECIFICATION.md, and what documents quote
        tools/write_docs.py --check       writes nothing: says what isn't current, and what a document says that the sources don't
        tools/write_docs.py --selftest    puts false sentences into a copy of the documents, each of which a check must refuse
+       tools/write_docs.py --check --selftest    does both; the last lines say of each whether it passed
 
 docs_api.py makes the pages on the public items, docs_limits.py the page on limits, docs_specification.py that on definitions, docs_checks.py has the
 checks, and docs_plants.py the false sentences. A quote is a block of code in a document after a line `<!-- from PATH: NAME -->`: it becomes the function or definition NAME as PATH
@@ -70,8 +71,7 @@ def write(tree, made):
     return 1 if left else 0
 
 
-def check(tree, made):
-    found = find_wrong(tree, made.pages)
+def check(tree, made, found):
     for name, text in found:
         print(f"write_docs: {text} [{name}]", file=sys.stderr)
     for text in [*warnings(tree), *made.warnings]:
@@ -81,9 +81,9 @@ def check(tree, made):
     return 1 if found else 0
 
 
-def selftest(tree, made):
+def selftest(tree, made, found):
     """Each false sentence must be refused by the check that it is for, which must have refused nothing of the kind before."""
-    before, missed = set(find_wrong(tree, made.pages)), 0
+    before, missed = set(found), 0
     for what, path, old, new, name in PLANTS:
         old, new = (old, new) if old else (r"\A#.*\n", lambda it, new=new: f"{it[0]}\n{new}\n")
         text = re.sub(old, new, tree.read(path), count=1, flags=re.M)
@@ -101,11 +101,21 @@ def selftest(tree, made):
     return 1 if missed else 0
 
 
+TASKS = {"--check": check, "--selftest": selftest}
+
+
 def main(words):
-    if len(words) > 1 or words and words[0] not in ("--check", "--selftest"):
+    if len(set(words)) < len(words) or set(words) - set(TASKS):
         sys.exit(__doc__)
     tree = Tree()
-    return {"--check": check, "--selftest": selftest}.get(words[0] if words else "", write)(tree, Made(tree))
+    made = Made(tree)
+    if not words:
+        return write(tree, made)
+    found = find_wrong(tree, made.pages)
+    passed = {word: not TASKS[word](tree, made, found) for word in words}
+    for word, is_well in passed.items():
+        print(f"{word}: {'passed' if is_well else 'failed'}", flush=True)
+    return 0 if all(passed.values()) else 1
 
 
 if __name__ == "__main__":

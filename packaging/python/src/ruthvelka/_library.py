@@ -5,6 +5,8 @@ import os
 from ._features import LIBRARY_VERSION
 
 VALID, REFUSED, NO_MEMORY, NOT_CHECKED, BAD_CALL = range(5)
+STATUS_DONE, STATUS_VALID, STATUS_REFUSED, STATUS_NO_MEMORY, STATUS_FAILED, STATUS_WRONG = range(16, 22)
+YES = 1
 NONE = 0xFFFFFFFF
 
 
@@ -26,6 +28,28 @@ class Query(ctypes.Structure):
     _fields_ = [(it, ctypes.c_uint32) for it in ("kind", "first_module", "first", "second_module", "second", "answer")]
 
 
+class Handle(ctypes.Structure):
+    """A validator or types: nothing, before the library writes into it."""
+
+    _fields_ = [("words", ctypes.c_void_p * 4)]
+
+
+class Outcome(ctypes.Structure):
+    _fields_ = [("size", ctypes.c_uint64)]
+    _fields_ += [(it, ctypes.c_uint32) for it in ("status", "function")]
+    _fields_ += [(it, ctypes.c_uint64) for it in ("offset", "missing_features", "message_length", "imports", "exports")]
+    _fields_ += [(it, ctypes.c_uint32) for it in ("types", "functions", "tables", "memories", "globals", "tags")]
+
+    @classmethod
+    def empty(cls) -> "Outcome":
+        """One that nothing was written into, which says of no module that it is valid."""
+        return cls(size=ctypes.sizeof(cls), function=NONE)
+
+
+class ValueType(ctypes.Structure):
+    _fields_ = [("size", ctypes.c_uint64)] + [(it, ctypes.c_uint32) for it in ("kind", "heap", "id")]
+
+
 def place() -> str:
     """The path of the shared object: that of this package, or, in a tree of sources, which has none, the one that RUTHVELKA_LIBRARY names."""
     own = os.path.join(os.path.dirname(os.path.abspath(__file__)), "libruthvelka.so.0")
@@ -39,6 +63,7 @@ def place() -> str:
 
 def load() -> ctypes.CDLL:
     word, number, size, text, report = ctypes.c_uint64, ctypes.c_uint32, ctypes.c_size_t, ctypes.c_char_p, ctypes.POINTER(Report)
+    handle, outcome, value = ctypes.POINTER(Handle), ctypes.POINTER(Outcome), ctypes.POINTER(ValueType)
     numbers, externs, modules = ctypes.POINTER(number), ctypes.POINTER(Extern), ctypes.POINTER(Bytes)
     calls = {
         "version": (number, []),
@@ -48,6 +73,17 @@ def load() -> ctypes.CDLL:
         "validate_with_externs": (number, [text, size, word, text, size, report, externs, size, externs, size, text, size]),
         "validate_list": (number, [modules, size, word, report, size, numbers, size, numbers, size]),
         "validate_list_with_queries": (number, [modules, size, word, report, size, ctypes.POINTER(Query), size]),
+        "check": (number, [text, size, word, text, size, outcome]),
+        "validator_new": (number, [handle, word, ctypes.c_void_p]),
+        "validator_validate": (number, [handle, text, size, text, size, outcome, handle]),
+        "validator_reset": (number, [handle]),
+        "validator_free": (None, [handle]),
+        "types_retain": (number, [handle, handle]),
+        "types_release": (None, [handle]),
+        "types_ids": (number, [handle, outcome, numbers, size, numbers, size]),
+        "types_is_subtype": (number, [handle, number, number]),
+        "types_matches": (number, [handle, value, value]),
+        "types_entity_may_be_given": (number, [handle, number, handle, number]),
     }
     library = ctypes.CDLL(place())
     for name, (result, arguments) in calls.items():

@@ -6,10 +6,20 @@ use std::sync::atomic::{AtomicU64, Ordering};
 /// What a call gives, or why it gives nothing.
 pub type Result<T, E = BinaryReaderError> = std::result::Result<T, E>;
 
+/// What kind of answer it is.
+#[derive(Clone, Copy, Debug, PartialEq, Eq)]
+enum Why {
+    Refused,
+    NoMemory,
+    NotChecked,
+    Failed,
+    WrongCall,
+}
+
 /// Why nothing is told of a module. It is refused only where [`is_refused`](BinaryReaderError::is_refused) says so; else nothing is said of its bytes.
 #[derive(Clone, Debug)]
 pub struct BinaryReaderError {
-    verdict: u32,
+    why: Why,
     offset: u64,
     function: Option<u32>,
     missing: WasmFeatures,
@@ -17,21 +27,52 @@ pub struct BinaryReaderError {
 }
 
 impl BinaryReaderError {
-    pub(crate) fn new(verdict: u32, report: &sys::Report, text: &[u8]) -> BinaryReaderError {
-        let message = match verdict {
-            sys::REFUSED => String::from_utf8_lossy(text).into_owned(),
-            sys::NO_MEMORY => "out of memory".into(),
-            sys::NOT_CHECKED => "not checked: it stands behind a module that ended the list".into(),
-            _ => "wrong call".into(),
+    fn of(why: Why, text: &[u8]) -> BinaryReaderError {
+        let message = match why {
+            Why::Refused => String::from_utf8_lossy(text).into_owned(),
+            Why::NoMemory => "out of memory".into(),
+            Why::NotChecked => "not checked: it stands behind a module that ended the list".into(),
+            Why::Failed => "the validator can't go on".into(),
+            Why::WrongCall => "wrong call".into(),
         };
-        let is_refused = verdict == sys::REFUSED;
-        BinaryReaderError {
-            verdict,
-            offset: if is_refused { report.offset } else { 0 },
-            function: (is_refused && report.function != sys::NO_FUNCTION).then_some(report.function),
-            missing: WasmFeatures(if is_refused { report.missing_features } else { 0 }),
-            message,
+        BinaryReaderError { why, offset: 0, function: None, missing: WasmFeatures(0), message }
+    }
+
+    fn at(self, offset: u64, function: u32, missing: u64) -> BinaryReaderError {
+        if !self.is_refused() {
+            return self;
         }
+        let function = (function != sys::NO_FUNCTION).then_some(function);
+        BinaryReaderError { offset, function, missing: WasmFeatures(missing), ..self }
+    }
+
+    /// What a call with a report says that gave this verdict.
+    pub(crate) fn new(verdict: u32, report: &sys::Report, text: &[u8]) -> BinaryReaderError {
+        let why = match verdict {
+            sys::REFUSED => Why::Refused,
+            sys::NO_MEMORY => Why::NoMemory,
+            _ => Why::WrongCall,
+        };
+        BinaryReaderError::of(why, text).at(report.offset, report.function, report.missing_features)
+    }
+
+    /// What a call on a handle says that gave this status.
+    pub(crate) fn told(status: u32, outcome: &sys::Outcome, text: &[u8]) -> BinaryReaderError {
+        let why = match status {
+            sys::STATUS_REFUSED => Why::Refused,
+            sys::STATUS_NO_MEMORY => Why::NoMemory,
+            sys::STATUS_FAILED => Why::Failed,
+            _ => Why::WrongCall,
+        };
+        BinaryReaderError::of(why, text).at(outcome.offset, outcome.function, outcome.missing_features)
+    }
+
+    pub(crate) fn not_checked() -> BinaryReaderError {
+        BinaryReaderError::of(Why::NotChecked, b"")
+    }
+
+    pub(crate) fn wrong_call() -> BinaryReaderError {
+        BinaryReaderError::of(Why::WrongCall, b"")
     }
 
     /// The raw message. It may quote names of the module, with any characters in them: escape it, or print the error.
@@ -56,17 +97,22 @@ impl BinaryReaderError {
 
     /// Whether the bytes are no valid module.
     pub fn is_refused(&self) -> bool {
-        self.verdict == sys::REFUSED
+        self.why == Why::Refused
     }
 
     /// Whether memory was refused, so that nothing is said of the bytes.
     pub fn is_out_of_memory(&self) -> bool {
-        self.verdict == sys::NO_MEMORY
+        self.why == Why::NoMemory
     }
 
     /// Whether the module stands in a list behind one that ended it.
     pub fn is_not_checked(&self) -> bool {
-        self.verdict == sys::NOT_CHECKED
+        self.why == Why::NotChecked
+    }
+
+    /// Whether the validator couldn't go on, so that the bytes weren't looked at.
+    pub fn is_failed(&self) -> bool {
+        self.why == Why::Failed
     }
 }
 
@@ -94,7 +140,7 @@ impl fmt::Display for BinaryReaderError {
 
 impl std::error::Error for BinaryReaderError {}
 
-/// Which call gave an id: no two have one number.
+/// Which validator, or which call, gave an id: no two have one number.
 #[derive(Clone, Copy, Debug, PartialEq, Eq, Hash, PartialOrd, Ord)]
 pub(crate) struct Told(u64);
 
@@ -105,12 +151,18 @@ impl Told {
     }
 }
 
+/// Refuses a library of another version.
+pub(crate) fn known_library() -> Result<()> {
+    // SAFETY: it may be called at any time.
+    if unsafe { sys::ruthvelka_version() } / 1000 == crate::features::LIBRARY_VERSION / 1000 {
+        return Ok(());
+    }
+    Err(BinaryReaderError::wrong_call())
+}
+
 /// Makes a call of the library on one module. A message that has no room is asked for again. The report is of a valid module.
 pub(crate) fn call(mut it: impl FnMut(&mut [u8], &mut sys::Report) -> u32) -> Result<sys::Report> {
-    // SAFETY: it may be called at any time.
-    if unsafe { sys::ruthvelka_version() } / 1000 != crate::features::LIBRARY_VERSION / 1000 {
-        return Err(BinaryReaderError::new(sys::BAD_CALL, &sys::Report::default(), b""));
-    }
+    known_library()?;
     let mut text = vec![0u8; 512];
     let mut report = sys::Report::default();
     let mut verdict = it(&mut text, &mut report);
@@ -140,6 +192,16 @@ mod tests {
             assert_eq!(why.is_out_of_memory(), verdict == sys::NO_MEMORY);
         }
         assert_ne!(sys::Report::default().verdict, sys::VALID);
+    }
+
+    #[test]
+    fn statuses_are_told_apart() {
+        for status in 0..32 {
+            let why = BinaryReaderError::told(status, &sys::Outcome::default(), b"");
+            let kinds = [why.is_refused(), why.is_out_of_memory(), why.is_failed(), why.is_not_checked()];
+            assert_eq!(kinds, [status == 18, status == 19, status == 20, false]);
+        }
+        assert_ne!(sys::Outcome::default().status, sys::STATUS_VALID);
     }
 
     #[test]

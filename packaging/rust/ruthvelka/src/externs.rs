@@ -108,6 +108,6 @@ pub(crate) fn read(bytes: &[u8], features: WasmFeatures) -> Result<Externs> {
             let exports = exports.into_iter().map(|it| Export { name: it.name, kind: it.kind, type_id: it.type_id }).collect();
             Ok(Externs { imports, exports })
         }
-        _ => Err(BinaryReaderError::new(sys::BAD_CALL, &sys::Report::default(), b"")),
+        _ => Err(BinaryReaderError::wrong_call()),
     }
 }

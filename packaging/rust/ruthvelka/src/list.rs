@@ -1,5 +1,5 @@
-use crate::error::{BinaryReaderError, Result, Told};
-use crate::{Types, WasmFeatures};
+use crate::error::{BinaryReaderError, Result};
+use crate::{Types, Validator, WasmFeatures};
 use ruthvelka_sys as sys;
 
 /// A question about the valid modules of a list, which are named by their places in it, from 0 on.
@@ -53,39 +53,15 @@ fn done(result: u32) -> Result<()> {
     Err(BinaryReaderError::new(result, &sys::Report::default(), b""))
 }
 
-/// What is said of each of these modules, which share one space of ids. Behind one that is refused for more than a body the rest aren't checked. The
-/// messages of refusals are empty.
+/// What is said of each of these modules, by one validator. Behind one that is refused for more than a body the rest aren't checked.
 pub fn validate_list(modules: &[&[u8]], features: WasmFeatures) -> Result<Vec<Result<Types>>> {
-    let sent = listed(modules);
-    let room = modules.iter().map(|it| it.len()).sum();
-    let (mut types, mut functions) = (vec![0u32; room], vec![0u32; room]);
-    let mut reports = vec![sys::Report::default(); modules.len()];
-    // SAFETY: each pointer is of a live slice of that length, and what is written overlaps nothing.
-    done(unsafe {
-        sys::ruthvelka_validate_list(
-            sent.as_ptr(),
-            sent.len(),
-            features.bits(),
-            reports.as_mut_ptr(),
-            reports.len(),
-            types.as_mut_ptr(),
-            types.len(),
-            functions.as_mut_ptr(),
-            functions.len(),
-        )
-    })?;
-    let told = Told::new();
-    let (mut types, mut functions) = (&types[..], &functions[..]);
-    let mut results = Vec::with_capacity(reports.len());
-    for report in &reports {
-        if report.verdict != sys::VALID {
-            results.push(Err(BinaryReaderError::new(report.verdict, report, b"")));
-            continue;
-        }
-        let (of_types, more_types) = types.split_at(report.types as usize);
-        let (of_functions, more_functions) = functions.split_at(report.functions as usize);
-        results.push(Ok(Types::new(report, told, of_types, of_functions)));
-        (types, functions) = (more_types, more_functions);
+    let mut validator = Validator::new_with_features(features);
+    let mut results = Vec::with_capacity(modules.len());
+    let mut goes_on = true;
+    for bytes in modules {
+        let result = if goes_on { validator.validate_all(bytes) } else { Err(BinaryReaderError::not_checked()) };
+        goes_on = goes_on && result.as_ref().map_or_else(|why| why.function().is_some(), |_| true);
+        results.push(result);
     }
     Ok(results)
 }
