@@ -14,23 +14,23 @@ use Rattle.wasm_operator_stacks.specs.declared.word.Word.{Word}
 
 -- the words of types of numbers and vectors
 pub i32_word : (w : Word) → w.bits ≡ 0 → operand_of w ≡ known i32
-unfolding operand_at, val_at
+unfolding operand_at val_at
 i32_word w e = rw e refl
 
 pub i64_word : (w : Word) → w.bits ≡ 8 → operand_of w ≡ known i64
-unfolding operand_at, val_at
+unfolding operand_at val_at
 i64_word w e = rw e refl
 
 pub f32_word : (w : Word) → w.bits ≡ 16 → operand_of w ≡ known f32
-unfolding operand_at, val_at
+unfolding operand_at val_at
 f32_word w e = rw e refl
 
 pub f64_word : (w : Word) → w.bits ≡ 24 → operand_of w ≡ known f64
-unfolding operand_at, val_at
+unfolding operand_at val_at
 f64_word w e = rw e refl
 
 pub v128_word : (w : Word) → w.bits ≡ 32 → operand_of w ≡ known v128
-unfolding operand_at, val_at
+unfolding operand_at val_at
 v128_word w e = rw e refl
 
 pub no_word : (w : Word) (o : Operand UnpackedIndex) → w.bits ≡ 18446744073709551615 → operand_of w ≡ o
