@@ -1,15 +1,15 @@
 -- Operands that are known to be of given types.
 use Rattle.std.proofs.Common.{◌≡◌, ℕ, ◌+◌, ◌<◌, List, [], ◌∷◌, ◌++◌, length, take, map, get_or, refl, sym, ◌∙◌, ap, arith}
 use Rattle.std.proofs.lemmas.List.{map-append, take_all, take_more}
-use Rattle.wasm_operators_plain.specs.WasmSpec.Syntax.{i32, i64, f32, f64, v128}
-use Rattle.wasm_operators_plain.specs.WasmReadersTypes.WasmReadersValues.SeenValues.{val_of}
-use Rattle.wasm_operators_plain.specs.WasmReadersTypes.WasmReadersValues.declared.indices.UnpackedIndex.{UnpackedIndex}
-use Rattle.wasm_operators_plain.specs.WasmReadersTypes.WasmReadersValues.declared.values.ValType.{ValType}
-use Rattle.wasm_operator_steps.specs.Machine.{Operand, known}
+use Rattle.wasm_validator_resources.specs.WasmSpec.Syntax.{i32, i64, f32, f64, v128}
+use Rattle.wasm_validator_resources.specs.WasmReadersTypes.WasmReadersValues.SeenValues.{val_of}
+use Rattle.wasm_validator_resources.specs.WasmReadersTypes.WasmReadersValues.declared.indices.UnpackedIndex.{UnpackedIndex}
+use Rattle.wasm_validator_resources.specs.WasmReadersTypes.WasmReadersValues.declared.values.ValType.{ValType}
+use Rattle.wasm_operator_stacks.specs.WasmOperatorSteps.Machine.{Operand, known}
 use Rattle.wasm_operator_stacks.specs.TypeWords.{val_at}
 use Rattle.wasm_operator_stacks.specs.Words.{operand_at}
 use Rattle.wasm_operator_stacks.specs.SeenOperands.{operand_of}
-use Rattle.wasm_operator_stacks.specs.KnownLists.{KnownTo}
+use Rattle.wasm_operator_checks.specs.KnownLists.{KnownTo}
 use Rattle.wasm_operator_stacks.specs.declared.word.Word.{Word}
 
 -- the words of types of numbers and vectors
