@@ -7,5 +7,6 @@ pub mod Acting
 pub mod Typing
 pub mod Comparing
 pub mod Naming
+pub mod KnownLists
 pub mod Knowing
 pub mod Finding

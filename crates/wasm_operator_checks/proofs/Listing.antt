@@ -1,6 +1,7 @@
 -- Lists of types that operands are checked against, and that are pushed.
-use Rattle.std.proofs.Common.{◌≡◌, ℕ, ◌-◌, ◌+◌, ◌<◌, List, [], ◌∷◌, length, drop, map, get_or, refl, arith, sym, ◌∙◌, ap}
+use Rattle.std.proofs.Common.{◌≡◌, ℕ, ◌-◌, ◌+◌, ◌<◌, List, [], ◌∷◌, length, take, drop, map, get_or, refl, arith, sym, ◌∙◌, ap}
 use Rattle.std.specs.Prelude.{zero, suc, Some, None}
+use Rattle.std.proofs.lemmas.List.{length-drop, take_all}
 use Rattle.std.proofs.lemmas.Option.{slice_get-get_or}
 use Rattle.wasm_validator_resources.specs.WasmSpec.MatchingTests.{World}
 use Rattle.wasm_validator_resources.specs.WasmSpec.Syntax.{Val}
@@ -57,6 +58,13 @@ all_taken W [] (suc n) s t e b = e
 all_taken W (v ∷ vs) zero s t e b = e
 all_taken W (v ∷ vs) (suc n) s t e b = rw (all_taken W vs n s t e b) (one_popped W (val_of v) t t bottom b refl)
 
-pub ruleset last_looks = (all_taken)
+all_behind : (vs : List ValType) (n : ℕ) → take (length vs - n) (drop n vs) ≡ drop n vs
+all_behind vs n = let l : length (drop n vs) ≡ length vs - n = length-drop n vs in take_all (length vs - n) (drop n vs) (omega (arith, l))
+
+-- the same, where the last types are a slice
+pub last_taken : (W : World UnpackedIndex) (vs : List ValType) (n : ℕ) (s t : State UnpackedIndex) → pop_vals W (map val_of (take (length vs - n) (drop n vs))) s ≡ Some t → pop_any t ≡ Some (bottom, t) → pop_vals W (map val_of vs) s ≡ Some t
+last_taken W vs n s t e b = all_taken W vs n s t (ap (λ ws. pop_vals W (map val_of ws) s) (sym (all_behind vs n)) ∙ e) b
+
+pub ruleset last_looks = (last_taken)
 
 pub ruleset list_checks = (next_popped, next_not_popped, all_taken)

@@ -5,8 +5,9 @@ ghost use Rattle.wasm_validator_resources.specs.WasmReadersTypes.WasmReadersValu
 ghost use Rattle.wasm_operator_stacks.specs.WasmOperatorSteps.Machine.{push_vals};
 ghost use Rattle.wasm_operator_stacks.specs.Seen.{state_of, below, Kept};
 
+use crate::known_lists::are_known;
 use std::alloc::{AllocError, Allocator};
-use wasm_operator_stacks::{Stacks, are_known};
+use wasm_operator_stacks::Stacks;
 use wasm_validator_resources::readers_types::ValType;
 
 /// Whether operands that are known to be of these types, the last one on top, stand below so many.

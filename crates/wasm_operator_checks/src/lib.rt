@@ -5,6 +5,7 @@
 mod faults;
 mod fields;
 mod known;
+mod known_lists;
 mod lists;
 mod looks;
 mod matching;

@@ -9,5 +9,4 @@ pub mod Wording
 pub mod Framing
 pub mod Pushing
 pub mod Slicing
-pub mod Knowing
 pub mod Raising

@@ -8,4 +8,3 @@ pub mod Words
 pub mod SeenOperands
 pub mod SeenBlocks
 pub mod Seen
-pub mod KnownLists

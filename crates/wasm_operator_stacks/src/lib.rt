@@ -5,7 +5,6 @@
 mod block_word;
 mod codes;
 mod copies;
-mod lists;
 mod local_word;
 mod locals;
 mod marks;
@@ -18,7 +17,6 @@ mod word;
 
 pub use block_word::{Block, BlockWord};
 pub use codes::{abstract_code, abstract_from_code};
-pub use lists::are_known;
 pub use local_word::LocalWord;
 pub use locals::{Locals, MAX_LOCALS};
 pub use marks::Marks;

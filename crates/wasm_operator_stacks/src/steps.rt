@@ -129,9 +129,6 @@ impl<A: Allocator> Stacks<A> {
         ensures open { self.new.is_open ≡ self.old.is_open }
         ensures same { Kept self.old self.new }
     {
-        if self.operands.raise(types) {
-            return Ok(());
-        }
         let count = self.operands.len();
         match push_each(&mut self.operands, types) {
             Ok(()) => Ok(()),

@@ -1,5 +1,5 @@
-use Rattle.wasm_operator_stacks.specs.KnownLists.{KnownTo}
-use Rattle.wasm_operator_stacks.proofs.lists.each_more.Given as goal
+use Rattle.wasm_operator_checks.specs.KnownLists.{KnownTo}
+use Rattle.wasm_operator_checks.proofs.known_lists.each_more.Given as goal
 
 abbrev pub invariant-going : goal.invariant-going
 invariant-going l = record {

@@ -1,8 +1,8 @@
 -- Lists of operands that are known to be of given types.
 use Rattle.std.specs.Prelude.{◌≡◌, ℕ, List, map, take}
-use Rattle.wasm_operators_plain.specs.WasmReadersTypes.WasmReadersValues.SeenValues.{val_of}
-use Rattle.wasm_operators_plain.specs.WasmReadersTypes.WasmReadersValues.declared.values.ValType.{ValType}
-use Rattle.wasm_operator_steps.specs.Machine.{known}
+use Rattle.wasm_validator_resources.specs.WasmReadersTypes.WasmReadersValues.SeenValues.{val_of}
+use Rattle.wasm_validator_resources.specs.WasmReadersTypes.WasmReadersValues.declared.values.ValType.{ValType}
+use Rattle.wasm_operator_stacks.specs.WasmOperatorSteps.Machine.{known}
 use Rattle.wasm_operator_stacks.specs.SeenOperands.{operand_of}
 use Rattle.wasm_operator_stacks.specs.declared.word.Word.{Word}
 

@@ -2,15 +2,14 @@
 //! are compared eight places at a time, without a branch on the type.
 
 ghost use Rattle.std.specs.Prelude.{◌≡◌, ◌≤◌, ◌<◌, ◌+◌, true, length, map};
-ghost use Rattle.wasm_operators_plain.specs.WasmReadersTypes.WasmReadersValues.SeenValues.{val_of};
-ghost use Rattle.wasm_operator_steps.specs.Machine.{known};
+ghost use Rattle.wasm_validator_resources.specs.WasmReadersTypes.WasmReadersValues.SeenValues.{val_of};
+ghost use Rattle.wasm_operator_stacks.specs.WasmOperatorSteps.Machine.{known};
 ghost use Rattle.wasm_operator_stacks.specs.SeenOperands.{operand_of};
-ghost use Rattle.wasm_operator_stacks.specs.KnownLists.{KnownTo};
+ghost use Rattle.wasm_operator_checks.specs.KnownLists.{KnownTo};
 ghost use Rattle.wasm_operator_stacks.specs.declared.word.Word.{Word};
 
-use crate::type_word::TypeWord;
-use crate::word::Word;
-use wasm_operators_plain::readers_types::ValType;
+use wasm_operator_stacks::{TypeWord, Word};
+use wasm_validator_resources::readers_types::ValType;
 
 /// A number that no word is.
 const NO_WORD: u64 = 18_446_744_073_709_551_615;
@@ -18,7 +17,7 @@ const NO_WORD: u64 = 18_446_744_073_709_551_615;
 /// The number of the words that are known to be of this type, if it is of numbers or vectors, and of
 /// a reference one that no word is.
 #[inline(always)]
-#[tactic(auto, using(crate::proofs::Knowing::numbers))]
+#[tactic(auto, using(crate::proofs::KnownLists::numbers))]
 fn plain_number(ty: ValType) -> u64
     ensures { (w : Word) → w.bits ≡ result → operand_of w ≡ known (val_of ty) }
 {
@@ -54,7 +53,7 @@ fn is_reference(word: Word, ty: ValType) -> bool
 /// Whether one operand more, behind those in front, is known to be of its type, which is of numbers
 /// or vectors.
 #[inline(always)]
-#[tactic(auto, using(crate::proofs::Knowing::places))]
+#[tactic(auto, using(crate::proofs::KnownLists::places))]
 fn one_more(operands: &[Word], types: &[ValType], at: usize) -> bool
     requires inside { at < length operands.now }
     requires typed { at < length types.now }
@@ -67,7 +66,7 @@ fn one_more(operands: &[Word], types: &[ValType], at: usize) -> bool
 /// Whether eight operands more, behind those in front, are known to be of their types, which are of
 /// numbers or vectors.
 #[inline(always)]
-#[tactic(auto, using(crate::proofs::Knowing::sums))]
+#[tactic(auto, using(crate::proofs::KnownLists::sums))]
 fn eight_more(operands: &[Word], types: &[ValType], at: usize) -> bool
     requires inside { at + 8 ≤ length operands.now }
     requires typed { at + 8 ≤ length types.now }
@@ -86,7 +85,7 @@ fn eight_more(operands: &[Word], types: &[ValType], at: usize) -> bool
 
 /// Whether the operands from one place to another, behind those in front, are known to be of their
 /// types.
-#[tactic(auto, using(crate::proofs::Knowing::places))]
+#[tactic(auto, using(crate::proofs::KnownLists::places))]
 fn each_more(operands: &[Word], types: &[ValType], from: usize, to: usize) -> bool
     requires order { from ≤ to }
     requires inside { to ≤ length operands.now }
@@ -104,8 +103,8 @@ fn each_more(operands: &[Word], types: &[ValType], from: usize, to: usize) -> bo
 
 /// Whether these operands are known to be of these types, place by place.
 #[inline(never)]
-#[tactic(auto, using(crate::proofs::Knowing::lists))]
-pub fn are_known(operands: &[Word], types: &[ValType]) -> bool
+#[tactic(auto, using(crate::proofs::KnownLists::lists))]
+pub(crate) fn are_known(operands: &[Word], types: &[ValType]) -> bool
     requires { length operands.now ≡ length types.now }
     ensures { result ≡ true
         → map operand_of operands.now ≡ map known (map val_of types.now) }

@@ -1,36 +1,36 @@
 -- Operands that are known to be of given types.
 use Rattle.std.proofs.Common.{◌≡◌, ℕ, ◌+◌, ◌<◌, List, [], ◌∷◌, ◌++◌, length, take, map, get_or, refl, sym, ◌∙◌, ap, arith}
 use Rattle.std.proofs.lemmas.List.{map-append, take_all, take_more}
-use Rattle.wasm_operators_plain.specs.WasmSpec.Syntax.{i32, i64, f32, f64, v128}
-use Rattle.wasm_operators_plain.specs.WasmReadersTypes.WasmReadersValues.SeenValues.{val_of}
-use Rattle.wasm_operators_plain.specs.WasmReadersTypes.WasmReadersValues.declared.indices.UnpackedIndex.{UnpackedIndex}
-use Rattle.wasm_operators_plain.specs.WasmReadersTypes.WasmReadersValues.declared.values.ValType.{ValType}
-use Rattle.wasm_operator_steps.specs.Machine.{Operand, known}
+use Rattle.wasm_validator_resources.specs.WasmSpec.Syntax.{i32, i64, f32, f64, v128}
+use Rattle.wasm_validator_resources.specs.WasmReadersTypes.WasmReadersValues.SeenValues.{val_of}
+use Rattle.wasm_validator_resources.specs.WasmReadersTypes.WasmReadersValues.declared.indices.UnpackedIndex.{UnpackedIndex}
+use Rattle.wasm_validator_resources.specs.WasmReadersTypes.WasmReadersValues.declared.values.ValType.{ValType}
+use Rattle.wasm_operator_stacks.specs.WasmOperatorSteps.Machine.{Operand, known}
 use Rattle.wasm_operator_stacks.specs.TypeWords.{val_at}
 use Rattle.wasm_operator_stacks.specs.Words.{operand_at}
 use Rattle.wasm_operator_stacks.specs.SeenOperands.{operand_of}
-use Rattle.wasm_operator_stacks.specs.KnownLists.{KnownTo}
+use Rattle.wasm_operator_checks.specs.KnownLists.{KnownTo}
 use Rattle.wasm_operator_stacks.specs.declared.word.Word.{Word}
 
 -- the words of types of numbers and vectors
 pub i32_word : (w : Word) → w.bits ≡ 0 → operand_of w ≡ known i32
-unfolding operand_at, val_at
+unfolding operand_at val_at
 i32_word w e = rw e refl
 
 pub i64_word : (w : Word) → w.bits ≡ 8 → operand_of w ≡ known i64
-unfolding operand_at, val_at
+unfolding operand_at val_at
 i64_word w e = rw e refl
 
 pub f32_word : (w : Word) → w.bits ≡ 16 → operand_of w ≡ known f32
-unfolding operand_at, val_at
+unfolding operand_at val_at
 f32_word w e = rw e refl
 
 pub f64_word : (w : Word) → w.bits ≡ 24 → operand_of w ≡ known f64
-unfolding operand_at, val_at
+unfolding operand_at val_at
 f64_word w e = rw e refl
 
 pub v128_word : (w : Word) → w.bits ≡ 32 → operand_of w ≡ known v128
-unfolding operand_at, val_at
+unfolding operand_at val_at
 v128_word w e = rw e refl
 
 pub no_word : (w : Word) (o : Operand UnpackedIndex) → w.bits ≡ 18446744073709551615 → operand_of w ≡ o

@@ -1,6 +1,6 @@
 use Rattle.std.proofs.Common.{◌*◌}
-use Rattle.wasm_operator_stacks.specs.KnownLists.{KnownTo}
-use Rattle.wasm_operator_stacks.proofs.lists.are_known.Given as goal
+use Rattle.wasm_operator_checks.specs.KnownLists.{KnownTo}
+use Rattle.wasm_operator_checks.proofs.known_lists.are_known.Given as goal
 
 abbrev pub invariant-comparing : goal.invariant-comparing
 invariant-comparing l = record {
