@@ -32,7 +32,7 @@ ghost use Rattle.wasm_validator_canonical.specs.Answers.{Says, IsAt};
 ghost use Rattle.wasm_validator_canonical.specs.Indices.{has_no_index};
 ghost use Rattle.wasm_validator_canonical.specs.Told.{IfContent, ToldOfIndexBy};
 
-use std::alloc::Allocator;
+use std::alloc::{AllocError, Allocator};
 use wasm_readers_errors::{Error, Fault, Refusal, WasmFeatures};
 use wasm_readers_types::{
     ArrayType, CompositeInnerType, ContType, CoreTypeId, FieldType, FuncType, HeapType, Items,
@@ -194,8 +194,7 @@ impl<'a> TypeCanonicalizer<'a> {
         }
     }
 
-    /// Value types, each with its index as the list has it. It takes memory only where there is an
-    /// index.
+    /// Value types, each with its index as the list has it, in as much memory as they take.
     #[tactic(auto, using(crate::proofs::Canonical::values_laws))]
     fn values<A: Allocator + Copy>(
         &self,
@@ -210,9 +209,9 @@ impl<'a> TypeCanonicalizer<'a> {
         ensures told { IfErr result (IfContent (ToldOfIndexBy self.now)) }
     {
         if !have_index(types.as_slice()) {
-            return Ok(types);
+            return Ok(fitting(alloc, types)?);
         }
-        let mut canonical = Vec::new(alloc);
+        let mut canonical = Vec::with_capacity(alloc, types.len())?;
         for ty in types.as_slice() {
             match self.value(*ty) {
                 Ok(value) => canonical.push(value)?,
@@ -235,7 +234,7 @@ impl<'a> TypeCanonicalizer<'a> {
         ensures place { IfErr result (IsAt self.now.offset) }
         ensures told { IfErr result (IfContent (ToldOfIndexBy self.now)) }
     {
-        let mut canonical = Vec::new(alloc);
+        let mut canonical = Vec::with_capacity(alloc, types.len())?;
         for ty in types {
             match self.field(*ty) {
                 Ok(field) => canonical.push(field)?,
@@ -302,6 +301,19 @@ impl<'a> TypeCanonicalizer<'a> {
             },
         }
     }
+}
+
+/// The same value types in as much memory as they take: a list that was read may have more.
+fn fitting<A: Allocator + Copy>(
+    alloc: A,
+    types: Vec<ValType, A>,
+) -> Result<Vec<ValType, A>, AllocError>
+    ensures { IfOk result (λ vs. vs.items ≡ types.items) }
+{
+    if types.len() == types.capacity() {
+        return Ok(types);
+    }
+    Vec::from_slice(alloc, types.as_slice())
 }
 
 /// Whether one of the value types has a type index.

@@ -4,5 +4,6 @@ pub mod Lists
 pub mod Exact
 pub mod Declared
 pub mod ById
+pub mod SharedTypes
 pub mod Referenced
 pub mod Reading

@@ -102,7 +102,7 @@ fn values<A: Allocator + Copy>(
     ensures { IfOk result (λ vs. map val_of vs.items
         ≡ map (map_val (as_id start)) (map val_of types.now)) }
 {
-    let mut copies = Vec::new(alloc);
+    let mut copies = Vec::with_capacity(alloc, types.len())?;
     for ty in types {
         copies.push(value(start, *ty))?;
     }
@@ -119,7 +119,7 @@ fn fields<A: Allocator + Copy>(
     ensures { IfOk result (λ xs. map field_of xs.items
         ≡ map (map_field (as_id start)) (map field_of types.now)) }
 {
-    let mut copies = Vec::new(alloc);
+    let mut copies = Vec::with_capacity(alloc, types.len())?;
     for ty in types {
         copies.push(field(start, *ty))?;
     }
@@ -136,7 +136,7 @@ fn supertypes<A: Allocator + Copy>(
     ensures { IfOk result (λ ps. map index_of ps
         ≡ map (as_id start) (map index_of indices.now)) }
 {
-    let mut copies = Vec::new(alloc);
+    let mut copies = Vec::with_capacity(alloc, indices.len())?;
     for index in indices {
         copies.push(index_by_id(start, *index))?;
     }

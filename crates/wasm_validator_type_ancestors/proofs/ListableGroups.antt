@@ -1,5 +1,5 @@
 -- When the references of a group are known, part by part.
-use Rattle.std.proofs.Common.{◌≡◌, refl, sym, ap, subst, ◌∙◌, ℕ, ◌+◌, ◌<◌, ◌≤◌, Bool, true, false, true≢false, List, [], ◌∷◌, ◌++◌, map, length, get_or, slice_get, arith, All}
+use Rattle.std.proofs.Common.{◌≡◌, refl, sym, ap, subst, ◌∙◌, ℕ, ◌<◌, ◌≤◌, Bool, true, false, true≢false, List, [], ◌∷◌, ◌++◌, map, length, arith, All}
 use Rattle.std.specs.Bool.{Decides}
 use Rattle.std.specs.List.{flat_map, slice_index_or}
 use Rattle.std.specs.Option.{option_map}
@@ -22,7 +22,7 @@ use Rattle.wasm_validator_type_groups.specs.WasmReadersTypes.SeenTypes.{comp_of,
 use Rattle.wasm_validator_type_ancestors.specs.Listable.{IsKnown, IsListable, IsListableAt}
 use Rattle.wasm_validator_type_ancestors.proofs.Items.{FirstHold, none_first, one_more, both, left, right, flat_decides}
 
-known_further : (types place positions : ℕ) → place < positions → (r : UnpackedIndex) → IsKnown types place r → IsKnown types positions r
+known_further : (types place positions : ℕ) → place ≤ positions → (r : UnpackedIndex) → IsKnown types place r → IsKnown types positions r
 known_further types place positions l (Module i) h = absurd h
 known_further types place positions l (RecGroup i) h = omega (arith, l, h)
 known_further types place positions l (Id id) h = h
@@ -81,7 +81,7 @@ module _ {A : Type 0} (types positions : ℕ) where
     behind_describes : IsListableAt types positions place s → Known types positions (descriptor ++ inner)
     behind_describes m = right (IsKnown types positions) describes (descriptor ++ inner) (behind_supers m)
 
-    pub type_listable : (ps : List PackedIndex) (a r : Bool) → ps ≡ s.supertype_idxs → Decides a ((length ps ≤ 1) × All (λ p. IsKnown types place (index_of p)) ps) → a ≡ true → place < positions
+    pub type_listable : (ps : List PackedIndex) (a r : Bool) → ps ≡ s.supertype_idxs → Decides a ((length ps ≤ 1) × All (λ p. IsKnown types place (index_of p)) ps) → a ≡ true → place ≤ positions
         → Known types positions describes → Known types positions descriptor → Decides r (Known types positions inner) → Decides r (IsListableAt types positions place s)
     type_listable ps a r q d e lt h k c =
         let first = subst (λ is. (length is ≤ 1) × All (λ p. IsKnown types place (index_of p)) is) q (d.0 e) in

@@ -4,3 +4,5 @@ pub mod Listable
 pub mod Counting
 pub mod Entries
 pub mod Inside
+pub mod Depths
+pub mod NotedDepths

@@ -3,6 +3,7 @@ use Rattle.std.specs.Prelude.{ℕ, ◌≡◌, ◌≤◌, ◌<◌, List, length, 
 use Rattle.std.specs.declared.option.Option.TheVariants.{Some}
 use Rattle.std.specs.List.{All}
 use Rattle.wasm_validator_type_groups.specs.WasmSpec.References.{refs_sub}
+use Rattle.wasm_validator_type_groups.specs.WasmReadersTypes.WasmReadersValues.Indices.{IsId}
 use Rattle.wasm_validator_type_groups.specs.WasmReadersTypes.WasmReadersValues.SeenValues.{index_of}
 use Rattle.wasm_validator_type_groups.specs.WasmReadersTypes.WasmReadersValues.declared.indices.UnpackedIndex.{UnpackedIndex}
 use Rattle.wasm_validator_type_groups.specs.WasmReadersTypes.WasmReadersValues.declared.indices.UnpackedIndex.TheVariants.{Module, RecGroup, Id}
@@ -27,3 +28,7 @@ module _ {A : Type 0} where
     pub known : All (IsKnown types positions) (refs_sub (sub_of s))
     pub one_supertype : length s.supertype_idxs ≤ 1
     pub earlier : All (λ p. IsKnown types place (index_of p)) s.supertype_idxs
+
+-- no reference in the types is a position in a group, or a module's index
+abbrev pub ReferByIds : {A : Type 0} → List (SubType A) → Type 0
+ReferByIds types = All (λ s. All IsId (refs_sub (sub_of s))) types

@@ -1,13 +1,14 @@
 //! Which recursion groups may be added to a list of types.
 
-ghost use Rattle.std.specs.Prelude.{◌≡◌, ◌<◌, ◌≤◌, ◌∷◌, [], length};
+ghost use Rattle.std.specs.Prelude.{◌≡◌, ◌<◌, ◌≤◌, ◌∷◌, ◌++◌, [], List, length};
 ghost use Rattle.std.specs.Bool.{Decides};
 ghost use Rattle.std.specs.Option.{option_map};
 ghost use Rattle.std.specs.List.{All};
 ghost use Rattle.wasm_validator_type_groups.specs.WasmSpec.References.{refs_heap, refs_val, refs_field, refs_comp, refs_option};
+ghost use Rattle.wasm_validator_type_groups.specs.WasmReadersTypes.declared.types.SubType.{SubType};
 ghost use Rattle.wasm_validator_type_groups.specs.WasmReadersTypes.WasmReadersValues.SeenValues.{index_of, heap_of, val_of, field_of};
 ghost use Rattle.wasm_validator_type_groups.specs.WasmReadersTypes.SeenTypes.{comp_of};
-ghost use Rattle.wasm_validator_type_ancestors.specs.Listable.{IsKnown, IsListable, IsListableAt};
+ghost use Rattle.wasm_validator_type_ancestors.specs.Listable.{IsKnown, IsListable, IsListableAt, ReferByIds};
 
 use std::alloc::Allocator;
 use wasm_validator_type_groups::readers_types::{
@@ -23,6 +24,33 @@ pub fn group_is_listable<A: Allocator>(types: usize, group: &[SubType<A>]) -> bo
 {
     'types: for i in 0..group.len() {
         if !is_listable_at(types, group.len(), i, &group[i]) {
+            return false;
+        }
+    }
+    true
+}
+
+/// Whether each reference in a list of types is an id, and each in a group that comes behind it,
+/// where it was said of the list. The list has this many types, and the group may be added to it.
+pub fn types_refer_by_ids<A: Allocator>(of_list: bool, types: usize, group: &[SubType<A>]) -> bool
+    requires { IsListable types group.now }
+    ensures { (listed : List (SubType A)) → Decides of_list (ReferByIds listed)
+        → Decides result (ReferByIds (listed ++ group.now)) }
+{
+    if of_list {
+        group_refers_by_ids(types, group)
+    } else {
+        false
+    }
+}
+
+/// Whether each reference in the group, which may be added to a list of this many types, is an id.
+fn group_refers_by_ids<A: Allocator>(types: usize, group: &[SubType<A>]) -> bool
+    requires { IsListable types group.now }
+    ensures { Decides result (ReferByIds group.now) }
+{
+    'types: for i in 0..group.len() {
+        if !is_listable_at(types, 0, 0, &group[i]) {
             return false;
         }
     }
@@ -45,7 +73,7 @@ fn is_listable_at<A: Allocator>(
     place: usize,
     ty: &SubType<A>,
 ) -> bool
-    requires { place < positions }
+    requires { place ≤ positions }
     ensures { Decides result (IsListableAt types positions place ty.now) }
 {
     let composite = &ty.composite_type;

@@ -6,6 +6,7 @@ pub mod Flat
 pub mod Elements
 pub mod Parts
 pub mod Snapshots
+pub mod Fronts
 pub mod Places
 pub mod Known
 pub mod Tables

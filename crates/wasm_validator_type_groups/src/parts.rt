@@ -3,7 +3,7 @@
 //! about log n runs. A look-up searches the runs, and then the parts of one. Parts and runs are
 //! shared by `Rc`, and joining copies pointers, never items.
 
-ghost use Rattle.std.specs.Prelude.{◌≡◌, ◌<◌, ◌≤◌, ◌+◌, ◌-◌, ◌^◌, ◌++◌, ◌∷◌, [], ℕ, List, length, map, slice_index_or, take, IfOk, OnOk, OnErr};
+ghost use Rattle.std.specs.Prelude.{◌≡◌, ◌<◌, ◌≤◌, ◌+◌, ◌-◌, ◌^◌, ◌++◌, ◌∷◌, [], ℕ, List, length, map, slice_index_or, take, IfOk, IsTrue, OnOk, OnErr};
 ghost use Rattle.wasm_validator_type_groups.specs.Parts.{seen, run_parts, run_seen, all_items, StandFrom, PartsStand, IsRun, RunsStand, AreFew, LastTwoDiffer};
 
 use std::alloc::{AllocError, Allocator};
@@ -225,6 +225,25 @@ pub(crate) fn gather<T: Drop, A: Allocator + Copy>(
             Err(AllocError)
         }
     }
+}
+
+/// Whether parts and runs are as a commit leaves them: the parts are few, and the last two runs, if
+/// there are two, don't have as many parts as each other.
+pub(crate) fn are_gathered<T, A: Allocator>(
+    runs: &Vec<Run<T, A>, A>,
+    parts: &Vec<Part<T, A>, A>,
+) -> bool
+    ensures few { IsTrue result → AreFew parts.now.items }
+    ensures joined { IsTrue result → LastTwoDiffer runs.now.items }
+{
+    if parts.len() >= MANY {
+        return false;
+    }
+    let count = runs.len();
+    if count < 2 {
+        return true;
+    }
+    runs[count - 1].parts.len() != runs[count - 2].parts.len()
 }
 
 /// The same parts, each with one more owner, behind others.

@@ -2,9 +2,12 @@
 //! parts (`parts.rt`) and, for each list alone, an open end.
 
 ghost use Rattle.std.specs.Prelude.{◌≡◌, ◌<◌, ◌++◌, ◌∷◌, [], length, slice_index_or, IfOk, IfErr, IfSome, OnOk, OnErr, IsSome, IsTrue, ◌↔◌};
+ghost use Rattle.wasm_validator_type_groups.specs.Fronts.{IsFront};
 
 use crate::group_id::RecGroupId;
-use crate::parts::{Part, Run, close, closed_item, gather, join_last, share, share_runs};
+use crate::parts::{
+    Part, Run, are_gathered, close, closed_item, gather, join_last, share, share_runs,
+};
 use std::alloc::{AllocError, AllocFailed, Allocator, Global};
 use std::marker::Model;
 use std::ops::{Index, Range};
@@ -148,6 +151,32 @@ impl<T, A: Allocator + Copy> SnapshotList<T, A> {
             runs,
             middle: self.middle,
             parts,
+            before: self.before,
+            tail: Vec::new(self.alloc),
+            alloc: self.alloc,
+        })
+    }
+
+    /// A list of its own with the first items of this one: those that were there at the last
+    /// `commit`. No item is copied: both lists hold the same ones.
+    ///
+    /// # Errors
+    ///
+    /// Fails where memory is refused.
+    pub fn share_committed(&self) -> Result<SnapshotList<T, A>, AllocError>
+    where
+        T: Drop,
+        ensures { IfOk result (λ copy. IsFront copy self.now) }
+    {
+        if !are_gathered(&self.runs, &self.parts) {
+            return Ok(SnapshotList::new(self.alloc));
+        }
+        let first_runs = share_runs(self.alloc, &self.runs)?;
+        let first_parts = share(self.alloc, &self.parts)?;
+        Ok(SnapshotList {
+            runs: first_runs,
+            middle: self.middle,
+            parts: first_parts,
             before: self.before,
             tail: Vec::new(self.alloc),
             alloc: self.alloc,

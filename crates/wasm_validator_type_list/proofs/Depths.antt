@@ -1,11 +1,9 @@
 -- The numbers of proper ancestors, as groups come behind.
-use Rattle.std.proofs.Common.{◌≡◌, refl, sym, ap, ◌∙◌, ℕ, zero, suc, ◌<◌, ◌≤◌, Bool, true, false, cond, nat_eq, List, [], ◌∷◌, ◌++◌, map, length, slice_get, Option, Some, None, arith, subst, ◌+◌, length-append}
+use Rattle.std.proofs.Common.{◌≡◌, refl, sym, ap, ◌∙◌, ℕ, zero, suc, ◌<◌, ◌≤◌, Bool, true, false, cond, List, [], ◌∷◌, ◌++◌, map, length, slice_get, Option, Some, None, arith, subst, ◌+◌, length-append}
 use Rattle.std.specs.Option.{option_map, option_and_then}
-use Rattle.std.specs.Map.{lookup}
-use Rattle.std.specs.FinMap as map
 use Rattle.std.specs.FinMap.Entries.{find-put}
 use Rattle.std.specs.Ordering.{nat_cmp, eq_by_cmp}
-use Rattle.std.specs.Cmp.{unsigned_tied, nat_eq_equiv, nat_cmp_total}
+use Rattle.std.specs.Cmp.{unsigned_tied, nat_cmp_total}
 use Rattle.std.proofs.lemmas.Option.{same_Some}
 use Rattle.std.proofs.lemmas.Bool.Decides.{Decides-eqb}
 use Rattle.std.proofs.lemmas.List.{append_assoc}
@@ -17,35 +15,12 @@ use Rattle.wasm_validator_type_ancestors.specs.WasmValidatorTypeGroups.Groups.{a
 use Rattle.wasm_validator_type_list.specs.Listable.{AreListable}
 use Rattle.wasm_validator_type_list.specs.Lookups.{IsSupertypeAt}
 use Rattle.wasm_validator_type_list.specs.Declares.{sub_by_ids, subs_by_ids, declares}
-use Rattle.wasm_validator_type_list.specs.Depths.{depth_of, in_order, with_depth, HasDepth, AreDepths}
+use Rattle.wasm_validator_type_list.specs.Depths.{depth_of, with_depth, HasDepth, AreDepths}
 use Rattle.wasm_validator_type_ancestors.proofs.WasmValidatorTypeGroups.Flat.{all_in-push}
 use Rattle.wasm_validator_type_ancestors.proofs.WasmValidatorTypeGroups.Places.{get-left}
 use Rattle.wasm_validator_type_list.proofs.Declares.{supertype_read, descends}
 use Rattle.wasm_validator_type_list.proofs.Chains.{not_behind}
 use Rattle.wasm_validator_type_list.proofs.Joined.{length-subs}
-
-nothing : {X : Type 0} (xs : List X) → length xs ≡ 0 → xs ≡ []
-nothing [] e = refl
-nothing (x ∷ xs) e = absurd (omega (arith, e))
-
--- what a map keeps, in order
-found-entry : (es : List (ℕ × ℕ)) (id : ℕ) → depth_of es id ≡ lookup (nat_eq id) es
-found-entry [] id = refl
-found-entry (e ∷ es) id = λ i. cond (unsigned_tied id e.0 i) (Some e.1) (found-entry es id i)
-
-pub found-in_order : (es : List (ℕ × ℕ)) (id : ℕ) → depth_of (in_order es) id ≡ lookup (nat_eq id) es
-found-in_order es id = sym (map.get-entries (map.from_entries {R = nat_cmp} es) id) ∙ map.get-from_entries nat_cmp_total es id ∙ found-entry es id
-
-pub in_order-none : in_order [] ≡ []
-in_order-none = nothing (in_order []) (sym (map.len-entries (map.empty {R = nat_cmp})) ∙ map.len-empty nat_cmp ℕ)
-
-pub in_order-put : (es fs : List (ℕ × ℕ)) (id n : ℕ) → ((q : ℕ) → lookup (nat_eq q) fs ≡ cond (nat_eq id q) (Some n) (lookup (nat_eq q) es)) → in_order fs ≡ with_depth (in_order es) id n
-in_order-put es fs id n h =
-    let m = map.from_entries {R = nat_cmp} es in
-    let tied : (q : ℕ) → nat_eq id q ≡ eq_by_cmp nat_cmp q id = λ q. nat_eq_equiv.symm id q ∙ sym (unsigned_tied q id) in
-    ap map.entries (map.same_map nat_cmp_total map.nat_cmp-IsAntisymmetric (map.from_entries fs) (map.insert m id n)
-    (λ q. map.get-from_entries nat_cmp_total fs q ∙ found-entry fs q ∙ h q ∙ (λ i. cond (tied q i) (Some n) (sym (map.get-from_entries nat_cmp_total es q ∙ found-entry es q) i)) ∙ sym (map.get-insert nat_cmp_total m id n q)))
-    ∙ map.entries-insert nat_cmp_total m id n
 
 -- what is found through an option, where each way finds the same
 through_same : {X : Type 0} (f g : ℕ → Option X) (o : Option ℕ) → ((y : ℕ) → o ≡ Some y → f y ≡ g y) → option_and_then f o ≡ option_and_then g o

@@ -1,5 +1,5 @@
 -- Lists of which each group may stand behind those before it.
-pub use Rattle.wasm_validator_type_ancestors.specs.Listable.{IsKnown, IsListable}
+pub use Rattle.wasm_validator_type_ancestors.specs.Listable.{IsKnown, IsListable, ReferByIds}
 use Rattle.std.specs.Prelude.{ℕ, ◌≡◌, List, slice_get}
 use Rattle.std.specs.declared.option.Option.TheVariants.{Some}
 use Rattle.wasm_readers_types.specs.declared.types.SubType.{SubType}

@@ -1,5 +1,6 @@
 -- What is always true of a list of types.
 use Rattle.std.specs.Prelude.{ℕ, suc, ◌≡◌, ◌≤◌, true, List, [], ◌∷◌, map, length}
+use Rattle.std.specs.Bool.{Decides}
 use Rattle.std.specs.declared.option.Option.{Option}
 use Rattle.wasm_readers_types.specs.WasmReadersValues.declared.indices.TheConstants.{MAX_IDS}
 use Rattle.wasm_readers_errors.specs.WasmSpec.Declared.{supertype}
@@ -7,10 +8,10 @@ use Rattle.wasm_readers_types.specs.declared.types.SubType.{SubType}
 use Rattle.wasm_validator_type_list.specs.declared.type_list.TypeList.TheInside.{Inside}
 use Rattle.wasm_validator_type_ancestors.specs.WasmValidatorTypeGroups.Groups.{all_in}
 use Rattle.wasm_validator_type_list.specs.Listing.{Listing}
-use Rattle.wasm_validator_type_list.specs.Listable.{AreListable}
+use Rattle.wasm_validator_type_list.specs.Listable.{AreListable, ReferByIds}
 use Rattle.wasm_validator_type_list.specs.Declares.{subs_by_ids}
 use Rattle.wasm_validator_type_list.specs.Interned.{AreOnce}
-use Rattle.wasm_validator_type_list.specs.Depths.{in_order, AreDepths}
+use Rattle.wasm_validator_type_list.specs.Depths.{AreDepths}
 
 -- how many of the groups have no members
 abbrev pub count_of_empty : {X : Type 0} → List (List X) → ℕ
@@ -20,18 +21,20 @@ count_of_empty ((x ∷ xs) ∷ gs) = count_of_empty gs
 
 module _ {A : Type 0} where
   abbrev pub shown : Inside A → Listing A
-  shown a = record { is_canonical = a.is_canonical; is_open = a.is_open; groups = a.groups; depths = in_order a.depths.entries }
+  shown a = record { is_canonical = a.is_canonical; is_open = a.is_open; groups = a.groups; depths = a.depths }
 
   -- the ids that the types of groups extend, in the order of their own
   abbrev pub supers_in : List (List (SubType A)) → List (Option ℕ)
   supers_in gs = map supertype (subs_by_ids 0 gs)
 
   -- each id fits a packed index, at most one group is empty, references are known, where equal groups are kept once none
-  -- is there twice, the lists of ancestors follow what types extend, and the depths that are kept are right
+  -- is there twice, the lists of ancestors follow what types extend, it is said whether references are ids alone, and the
+  -- depths that are kept are right
   pub record IsSound (a : Inside A) : Type 0 where
     pub room : length (all_in a.groups) ≤ MAX_IDS
     pub few : count_of_empty a.groups ≤ 1
     pub listable : AreListable a.groups
     pub once : a.is_canonical ≡ true → AreOnce a.groups
     pub ancestors : a.ancestors ≡ supers_in a.groups
-    pub deep : AreDepths a.groups (in_order a.depths.entries)
+    pub by_ids : Decides a.refers_by_ids (ReferByIds (all_in a.groups))
+    pub deep : AreDepths a.groups a.depths

@@ -1,5 +1,4 @@
-//! The list of types of a validator, as the name that the Rust crate has for it: it is used like
-//! the list itself.
+//! The list of types of a validator, under the Rust crate's name: it is used like the list itself.
 
 ghost use Rattle.std.specs.Prelude.{◌≡◌};
 ghost use Rattle.std.specs.Borrow.{Lends, sem};

@@ -10,8 +10,8 @@
 //! - `interning.rt` adds a group, or finds it.
 //! - `relations.rt` is subtyping on ids, `total.rt` the same for any two ids, and `matching.rt`
 //!   matching of composite types.
-//! - `holding.rt` says which types and groups refer to ids of the list only, `links.rt` what
-//!   may be linked to an import, and `depths.rt` how deep a type is in its hierarchy.
+//! - `holding.rt` says which types and groups refer to ids of the list only, `links.rt` what may be
+//!   linked to an import, and `depths.rt` how deep a type is.
 //!
 //! A contract sees a `Listing`: the mode, whether groups may be added, the groups as lists of sub
 //! types, and the kept depths. What the ids stand for is a function of it (`specs/DefTypes.antt`).
@@ -29,16 +29,14 @@ ghost use Rattle.wasm_validator_type_list.specs.Refused.{not_in_group};
 ghost use Rattle.wasm_validator_type_list.specs.Lookups.{leads_to, Leads, group_span};
 
 use std::alloc::{AllocError, Allocator, Global};
-use std::collections::HashMap;
-use std::hash::{BuildHasherDefault, FoldHasher};
 use std::marker::Model;
 use std::ops::{Index, Range};
 use wasm_readers_errors::{Fault, Refusal};
 use wasm_readers_types::{CoreTypeId, PackedIndex, SubType, UnpackedIndex};
-use wasm_validator_type_ancestors::AncestorLists;
 use wasm_validator_type_ancestors::validator_type_groups::{
     GroupTable, RecGroupElements, RecGroupId, SnapshotList,
 };
+use wasm_validator_type_ancestors::{AncestorLists, KeptDepths};
 
 mod depths;
 mod holding;
@@ -48,19 +46,15 @@ mod matching;
 mod relations;
 mod total;
 
-/// The depths of types, found by the numbers of their ids.
-type KeptDepths<A> = HashMap<u32, u8, BuildHasherDefault<FoldHasher>, A>;
-
 /// The types of all modules that one validator has seen, in recursion groups, each type under its
-/// id. A contract sees the mode of the list, whether groups may be added, the sub types of each
-/// group in order, and the depths that are kept of types; an id is a place in the list of all
-/// types.
-///
-/// Where the list is canonical equal groups are kept once, so that no two ids stand for one type.
+/// id, which is its place among all types. A contract sees the mode of the list, whether groups may
+/// be added, the sub types of each group in order, and the depths that are kept of types. Where it
+/// is canonical equal groups are kept once, so that no two ids stand for one type.
 pub struct TypeList<A: Allocator = Global> {
     groups: GroupTable<SubType<A>, A>,
     ancestors: AncestorLists<A>,
     depths: KeptDepths<A>,
+    refers_by_ids: bool,
     is_canonical: bool,
     is_open: bool,
     alloc: A,
@@ -73,6 +67,7 @@ impl<A: Allocator> Drop for TypeList<A> {
             groups: _,
             ancestors: _,
             depths: _,
+            refers_by_ids: _,
             is_canonical: _,
             is_open: _,
             alloc: _,
@@ -94,7 +89,8 @@ impl<A: Allocator> Model for TypeList<A> {
 
 impl<A: Allocator + Copy> TypeList<A> {
     ghost use Rattle.wasm_validator_type_list.specs.Listing.{no_groups, types_in, committed};
-    ghost use Rattle.wasm_validator_type_list.specs.Listable.{AreListable};
+    ghost use Rattle.std.specs.Bool.{Decides};
+    ghost use Rattle.wasm_validator_type_list.specs.Listable.{AreListable, ReferByIds};
     ghost use Rattle.wasm_validator_type_list.specs.Interned.{AreOnce};
     ghost use Rattle.wasm_validator_type_list.specs.DefTypes.{def_types};
     ghost use Rattle.wasm_readers_errors.specs.WasmSpec.TypeLaws.{HasNoRepetition};
@@ -107,7 +103,8 @@ impl<A: Allocator + Copy> TypeList<A> {
         TypeList {
             groups: GroupTable::new(alloc, is_canonical),
             ancestors: AncestorLists::new(alloc),
-            depths: HashMap::new(alloc),
+            depths: KeptDepths::new(alloc),
+            refers_by_ids: true,
             is_canonical,
             is_open: true,
             alloc,
@@ -131,6 +128,13 @@ impl<A: Allocator + Copy> TypeList<A> {
         self.is_open
     }
 
+    /// Whether each reference in the types is an id, and none a position in a group.
+    pub fn refers_by_ids(&self) -> bool
+        ensures { Decides result (ReferByIds (types_in self.now)) }
+    {
+        self.refers_by_ids
+    }
+
     /// The number of types. Each type refers to types before it, or to those of its group, and no
     /// two ids stand for one type.
     pub fn len(&self) -> usize
@@ -142,9 +146,8 @@ impl<A: Allocator + Copy> TypeList<A> {
         self.groups.item_count()
     }
 
-    /// Says what holds of each list, for a caller that needs it and nothing else: no more types
-    /// than ids, each type refers to types before it, or to those of its group, and no two ids
-    /// stand for one type. It does nothing.
+    /// Says what holds of each list, for a caller that needs it and nothing else: what `len` says
+    /// besides the number of types. It does nothing.
     #[inline(always)]
     pub fn recall_promises(&self)
         ensures room { length (types_in self.now) ≤ MAX_IDS }
@@ -240,9 +243,8 @@ impl<A: Allocator + Copy> TypeList<A> {
         local_id(self.groups.members(group.index()), index, offset)
     }
 
-    /// The id that a reference in the group leads to. The list must have the group, and the
-    /// reference must be no module's index. `offset` is where the reference stands, in bytes from
-    /// the start of the input.
+    /// The id that a reference in the group, which the list must have, leads to: no module's index.
+    /// `offset` is where the reference stands, in bytes from the start of the input.
     ///
     /// # Errors
     ///
@@ -320,7 +322,8 @@ impl<A: Allocator + Copy> TypeList<A> {
         Ok(TypeList {
             groups,
             ancestors,
-            depths: HashMap::new(self.alloc),
+            depths: KeptDepths::new(self.alloc),
+            refers_by_ids: self.refers_by_ids,
             is_canonical: self.is_canonical,
             is_open: false,
             alloc: self.alloc,

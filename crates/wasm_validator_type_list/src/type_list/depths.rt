@@ -27,9 +27,7 @@ impl<A: Allocator + Copy> TypeList<A> {
             (with_depth self.old.depths id.index depth)) }
         ensures err { OnErr result (self.new ≡ self.old) }
     {
-        self.depths.reserve(1)?;
-        let inserted: Result<_, _> = self.depths.insert(id.index() as u32, depth);
-        let _none = inserted.unwrap();
+        self.depths.put(id.index() as u32, depth)?;
         Ok(())
     }
 
@@ -38,11 +36,7 @@ impl<A: Allocator + Copy> TypeList<A> {
         ensures kept { result ≡ depth_of self.now.depths id.index }
         ensures right { IfSome result (HasDepth self.now.groups id.index) }
     {
-        let number = id.index() as u32;
-        match self.depths.get(&number) {
-            Some(depth) => Some(*depth),
-            None => None,
-        }
+        self.depths.get(id.index() as u32)
     }
 
     /// The depth of the type with this id, which is kept. A committed list keeps none.

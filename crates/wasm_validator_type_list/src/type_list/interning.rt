@@ -17,6 +17,7 @@ use std::alloc::Allocator;
 use std::hash::Hash;
 use wasm_readers_errors::{Error, Fault, Refusal, Rule};
 use wasm_readers_types::{CoreTypeId, FuncType, MAX_IDS, RecGroup, SubType};
+use wasm_validator_type_ancestors::types_refer_by_ids;
 use wasm_validator_type_ancestors::validator_type_groups::{GroupTable, RecGroupId};
 
 impl<A: Allocator + Copy> TypeList<A> {
@@ -56,8 +57,11 @@ impl<A: Allocator + Copy> TypeList<A> {
             return Err(Error::Refused(refusal));
         }
         let number = self.groups.group_count() as u32;
+        let places = self.groups.item_count();
+        let refers_by_ids = types_refer_by_ids(self.refers_by_ids, places, group.types());
         self.ancestors
             .push_group(&mut self.groups, group.into_types(), hash)?;
+        self.refers_by_ids = refers_by_ids;
         Ok((true, RecGroupId::from_index(number)))
     }
 

@@ -1,4 +1,4 @@
-use Rattle.std.proofs.Common.{◌≡◌, refl, subst, true, List, map}
+use Rattle.std.proofs.Common.{◌≡◌, refl, ap, subst, ◌∙◌, true, List, map}
 use Rattle.std.specs.List.{list_all}
 use Rattle.wasm_readers_types.specs.WasmReadersValues.SeenValues.{val_of}
 use Rattle.wasm_readers_types.specs.WasmReadersValues.declared.values.ValType.{ValType}
@@ -8,4 +8,4 @@ use Rattle.wasm_validator_canonical.proofs.type_canonicalizer.TypeCanonicalizer.
 
 pub returns-then-not-have_index-clause-value : goal.returns-then-not-have_index-clause-value
 returns-then-not-have_index-clause-value g c =
-    values_kept c.args.self.now (map val_of c.args.types.items) (subst (λ (l : List ValType). list_all has_no_index (map val_of l) ≡ true) c.as_slice.ensures.value (c.if-not-have_index.ensures refl))
+    ap (map val_of) c.in_ok-fitting.ensures ∙ values_kept c.args.self.now (map val_of c.args.types.items) (subst (λ (l : List ValType). list_all has_no_index (map val_of l) ≡ true) c.as_slice.ensures.value (c.if-not-have_index.ensures refl))

@@ -1,8 +1,9 @@
+use Rattle.std.specs.Bool.{Decides}
 use Rattle.std.proofs.Common.{arith, ap, subst, sym, ◌∙◌, ◌≤◌, ◌-◌, ◌++◌, ◌∷◌, [], length, refl}
 use Rattle.wasm_readers_types.specs.WasmReadersValues.declared.indices.TheConstants.{MAX_IDS}
 use Rattle.wasm_validator_type_ancestors.specs.WasmValidatorTypeGroups.Groups.{all_in}
 use Rattle.wasm_validator_type_ancestors.specs.Supers.{extended_in}
-use Rattle.wasm_validator_type_list.specs.Listable.{IsListable}
+use Rattle.wasm_validator_type_list.specs.Listable.{IsListable, ReferByIds}
 use Rattle.wasm_validator_type_list.proofs.Ancestors.{as_many, extend_earlier}
 use Rattle.wasm_validator_type_list.proofs.Full.{full_missed, full_found, full_fits, known_missed}
 use Rattle.wasm_validator_type_list.proofs.Sound.{group_room, room_of, mode_of, next_of, only_once, place_found, place_missed, sound_same, sound_push, shown_same, interned_found, interned_new}
@@ -50,6 +51,12 @@ returns-then-types-item_count-clause-known g c =
 pub overflow_cast-number : goal.overflow_cast-number
 overflow_cast-number g c = omega (arith, group_room c.self.inside c.self.invariant)
 
+pub types_refer_by_ids-refers_by_ids-requires : goal.types_refer_by_ids-refers_by_ids-requires
+types_refer_by_ids-refers_by_ids-requires g c =
+    let here : IsListable c.item_count-places.result c.args.group.types =
+    subst (λ n. IsListable n c.args.group.types) (sym c.item_count-places.ensures) (next_of c.self.inside c.args.self.now c.args.group.types c.self.view_is c.requires.listable) in
+    subst (λ l. IsListable c.item_count-places.result l) (sym c.types-4.ensures) here
+
 pub push_group-requires-clause-as_many : goal.push_group-requires-clause-as_many
 push_group-requires-clause-as_many g c = as_many c.self.inside c.self.invariant
 
@@ -67,13 +74,13 @@ push_group-requires-clause-room g c =
     omega (arith, room_of c.self.inside c.item_count.result (length c.args.group.types) c.self.invariant c.item_count.ensures count, ap length c.into_types.ensures)
 
 pub invariant_of-self : goal.invariant_of-self
-invariant_of-self g c = sound_same c.self.inside _ c.self.invariant c.in_err-push_group.ensures.same_groups refl refl c.in_err-push_group.ensures.err refl
+invariant_of-self g c = sound_same c.self.inside _ c.self.invariant c.in_err-push_group.ensures.same_groups refl refl c.in_err-push_group.ensures.err refl refl
 
 pub returns-in_err-push_group-clause-err : goal.returns-in_err-push_group-clause-err
 returns-in_err-push_group-clause-err g c =
     let a = c.self.inside in
     on_err c.from_residual.result
-    (shown_same a (record { groups = c.push_group.new.groups; ancestors = c.push_group.new.self; depths = a.depths; is_canonical = a.is_canonical; is_open = a.is_open; alloc = a.alloc }) c.args.self.now c.self.view_is
+    (shown_same a (record { groups = c.push_group.new.groups; ancestors = c.push_group.new.self; depths = a.depths; refers_by_ids = a.refers_by_ids; is_canonical = a.is_canonical; is_open = a.is_open; alloc = a.alloc }) c.args.self.now c.self.view_is
     c.in_err-push_group.ensures.same_groups refl refl refl)
 
 pub returns-in_err-push_group-clause-known : goal.returns-in_err-push_group-clause-known
@@ -94,13 +101,14 @@ invariant_of-self-2 g c =
     (λ off. c.requires.members (sym mode ∙ off))
     (c.in_ok-push_group.ensures.groups ∙ ap (λ l. a.groups ++ l ∷ []) c.into_types.ensures) refl
     (c.in_ok-push_group.ensures.lists ∙ ap (λ l. a.ancestors ++ extended_in (length (all_in a.groups)) l) c.into_types.ensures) refl
+    (subst (λ l. Decides c.types_refer_by_ids-refers_by_ids.result (ReferByIds (all_in a.groups ++ l))) c.types-4.ensures (c.types_refer_by_ids-refers_by_ids.ensures (all_in a.groups) c.self.invariant.by_ids))
 
 pub returns-clause-interned : goal.returns-clause-interned
 returns-clause-interned g c =
     let a = c.self.inside in
     let mode = mode_of a c.args.self.now c.args.is_canonical c.self.view_is c.requires.mode in
     rw (c.from_index-2.ensures, c.group_count-number.ensures)
-    (interned_new a (record { groups = c.push_group.new.groups; ancestors = c.push_group.new.self; depths = a.depths; is_canonical = a.is_canonical; is_open = a.is_open; alloc = a.alloc })
+    (interned_new a (record { groups = c.push_group.new.groups; ancestors = c.push_group.new.self; depths = a.depths; refers_by_ids = c.types_refer_by_ids-refers_by_ids.result; is_canonical = a.is_canonical; is_open = a.is_open; alloc = a.alloc })
     c.args.self.now c.args.group.types c.self.view_is c.self.invariant c.requires.listable (c.in_ok-push_group.ensures.groups ∙ ap (λ l. a.groups ++ l ∷ []) c.into_types.ensures) refl refl
     (λ on. place_missed a.groups c.args.group.types c.types-2.result.now c.found_in.result c.types-2.ensures c.in_default.is (c.found_in.ensures.once (sym mode ∙ on))) refl).0
 
@@ -109,7 +117,7 @@ returns-clause-types g c =
     let a = c.self.inside in
     let mode = mode_of a c.args.self.now c.args.is_canonical c.self.view_is c.requires.mode in
     rw (c.from_index-2.ensures, c.group_count-number.ensures)
-    (interned_new a (record { groups = c.push_group.new.groups; ancestors = c.push_group.new.self; depths = a.depths; is_canonical = a.is_canonical; is_open = a.is_open; alloc = a.alloc })
+    (interned_new a (record { groups = c.push_group.new.groups; ancestors = c.push_group.new.self; depths = a.depths; refers_by_ids = c.types_refer_by_ids-refers_by_ids.result; is_canonical = a.is_canonical; is_open = a.is_open; alloc = a.alloc })
     c.args.self.now c.args.group.types c.self.view_is c.self.invariant c.requires.listable (c.in_ok-push_group.ensures.groups ∙ ap (λ l. a.groups ++ l ∷ []) c.into_types.ensures) refl refl
     (λ on. place_missed a.groups c.args.group.types c.types-2.result.now c.found_in.result c.types-2.ensures c.in_default.is (c.found_in.ensures.once (sym mode ∙ on))) refl).1
 

@@ -1,6 +1,6 @@
 use Rattle.std.proofs.Common.{◌≡◌, length, take}
 use Rattle.wasm_validator_core_resources.specs.ById.{AreFirstByIds}
-use Rattle.wasm_validator_core_resources.proofs.types_by_ids.TypesByIds.update.Given as goal
+use Rattle.wasm_validator_core_resources.proofs.types_by_ids.TypesByIds.copy_rest.Given as goal
 
 abbrev pub invariant-loop-place : goal.invariant-loop-place
 invariant-loop-place g l = record {
