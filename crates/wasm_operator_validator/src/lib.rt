@@ -5,6 +5,7 @@
 mod arity;
 mod bytes;
 mod queries;
+mod seldom;
 mod steps;
 mod validator;
 mod visitor;
