@@ -10,26 +10,19 @@ use Rattle.wasm_operator_blocks.specs.WasmOperatorChecks.WasmValidatorResources.
 use Rattle.wasm_operator_blocks.specs.WasmOperatorChecks.WasmOperatorStacks.Seen.{state_of, around, Kept}
 use Rattle.wasm_operator_blocks.specs.WasmOperatorChecks.WasmOperatorStacks.declared.stacks.Stacks.{Stacks}
 use Rattle.wasm_operator_blocks.specs.WasmOperatorChecks.Steps.{Took}
-use Rattle.wasm_operator_blocks.specs.WasmOperatorChecks.declared.faults.OperatorFault.{OperatorFault}
+use Rattle.wasm_operator_blocks.specs.WasmOperatorChecks.declared.faults.OperatorError.{OperatorError}
 use Rattle.wasm_operator_blocks.specs.WasmOperatorChecks.declared.faults.OperatorError.TheVariants.{Refused, OutOfMemory}
 use Rattle.wasm_operator_fast.specs.Fused.{step_at}
 use Rattle.wasm_operator_validator.specs.Stepped.{Steps}
 use Rattle.wasm_operator_validator.specs.Reads.{stepped}
 use Rattle.wasm_operator_validator.proofs.Kept.{kept_around, kept_on}
-use Rattle.wasm_operator_validator.proofs.Reading.{step_taken}
-use Rattle.wasm_operator_validator.proofs.Written.{is_written}
 
 -- a step that isn't taken changes nothing
 module _ {A : Type 0} (C : Context UnpackedIndex) (i : Instruction UnpackedIndex) (v w : Stacks A) where
-  pub not_stepped : (f : OperatorFault) → Steps (Err (Refused f)) C i v w → state_of w ≡ state_of v
+  pub not_stepped : (e : OperatorError) → Steps (Err e) C i v w → state_of w ≡ state_of v
   unfolding Took
-  not_stepped f p = p.1
-
-  pub no_memory : Steps (Err OutOfMemory) C i v w → state_of w ≡ state_of v
-  unfolding Took
-  no_memory p = p
-
-pub ruleset steps = (is_written, step_taken, not_stepped, no_memory)
+  not_stepped (Refused f) p = p.1
+  not_stepped OutOfMemory p = p
 
 -- from where nothing changed
 pub still_stepped : {A : Type 0} (C : Context UnpackedIndex) (v w : Stacks A) (r s : BinaryReader) (o : Option (State UnpackedIndex × List ℕ)) → Kept v w → state_of w ≡ state_of v → s ≡ r → stepped C w s ≡ o → stepped C v r ≡ o

@@ -23,7 +23,6 @@ use wasm_readers::readers_errors::Error;
 /// that isn't done the reader may stand further on.
 #[cold]
 #[inline(never)]
-#[tactic(auto, using(crate::proofs::Trying::steps))]
 fn step_read<'a, A: Allocator, T: WasmModuleResources>(
     reader: &mut BinaryReader<'a>,
     stacks: &mut Stacks<A>,
