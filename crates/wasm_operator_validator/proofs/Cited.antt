@@ -7,3 +7,4 @@ pub use Rattle.wasm_operators.specs.WasmOperatorsPlain.Tables.{table_access_from
 pub use Rattle.wasm_operators.specs.Control.{control_from, parametric_from}
 pub use Rattle.wasm_operators.specs.Instructions.{bulk_from, plain_from, prefixed_from, instruction_at}
 pub use Rattle.wasm_operators.specs.References.{reference_from}
+pub use Rattle.wasm_operator_blocks.proofs.Tabled.{empties}

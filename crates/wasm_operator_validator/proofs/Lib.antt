@@ -9,3 +9,4 @@ pub mod Kept
 pub mod Answering
 pub mod Cited
 pub mod Trying
+pub mod Listed

@@ -7,7 +7,8 @@ ghost use Rattle.wasm_operator_validator.specs.Typed.{typed_state};
 ghost use Rattle.wasm_operator_validator.specs.Checked.{StandsIn};
 ghost use Rattle.wasm_operator_validator.specs.Reads.{ReadsStep, stepped};
 
-use crate::seldom::next_seldom;
+use crate::labels::table_step;
+use crate::seldom::{is_seldom, next_seldom};
 use crate::steps::step;
 use crate::validator::OperatorValidator;
 use std::alloc::Allocator;
@@ -61,7 +62,16 @@ fn seldom_step<'a, A: Allocator, T: WasmModuleResources>(
     ensures left { OnErr result (state_of stacks.new ≡ state_of stacks.old) }
     ensures same { Kept stacks.old stacks.new }
 {
-    // The reader itself is not lent, so that it can be kept in registers.
+    // What is lent can't be kept in registers, so that each look has a reader of its own.
+    let mut front = *reader;
+    match front.next_u8() {
+        Some(opcode) => {
+            if !is_seldom(opcode) {
+                return Err(NotTaken::Left);
+            }
+        }
+        None => return Err(NotTaken::Left),
+    }
     let mut ahead = *reader;
     match step_read(&mut ahead, stacks, resources) {
         Ok(()) => {
@@ -69,6 +79,34 @@ fn seldom_step<'a, A: Allocator, T: WasmModuleResources>(
             Ok(())
         }
         Err(error) => Err(error),
+    }
+}
+
+/// Reads the next operator and takes its step, where it is one that compilers write less often or
+/// `br_table` to labels that take nothing. Where that isn't done all stays.
+#[cold]
+#[inline(never)]
+#[tactic(auto, using(crate::proofs::Trying::tries))]
+fn step_otherwise<'a, A: Allocator, T: WasmModuleResources>(
+    reader: &mut BinaryReader<'a>,
+    stacks: &mut Stacks<A>,
+    resources: &T,
+) -> Result<(), NotTaken>
+    ensures input { SameInput reader.old reader.new }
+    ensures further { OnOk result (position_in reader.old < position_in reader.new) }
+    ensures took { OnOk result (stepped (T.context resources.now) stacks.old reader.old
+        ≡ Some (state_of stacks.new, rest reader.new)) }
+    ensures unread { OnErr result (reader.new ≡ reader.old) }
+    ensures left { OnErr result (state_of stacks.new ≡ state_of stacks.old) }
+    ensures same { Kept stacks.old stacks.new }
+{
+    match seldom_step(reader, stacks, resources) {
+        Ok(()) => Ok(()),
+        Err(NotTaken::Left) => match table_step(reader, stacks, resources) {
+            Ok(()) => Ok(()),
+            Err(error) => Err(error),
+        },
+        Err(NotTaken::OutOfMemory) => Err(NotTaken::OutOfMemory),
     }
 }
 
@@ -97,7 +135,7 @@ impl<A: Allocator> OperatorValidator<A> {
     {
         match fast_step(reader, &mut self.stacks, resources) {
             Ok(()) => Ok(()),
-            Err(NotTaken::Left) => match seldom_step(reader, &mut self.stacks, resources) {
+            Err(NotTaken::Left) => match step_otherwise(reader, &mut self.stacks, resources) {
                 Ok(()) => Ok(()),
                 Err(error) => Err(error),
             },

@@ -4,6 +4,7 @@
 
 mod arity;
 mod bytes;
+mod labels;
 mod queries;
 mod seldom;
 mod steps;

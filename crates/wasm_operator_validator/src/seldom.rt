@@ -171,6 +171,16 @@ fn next_on_values<'a>(reader: &mut BinaryReader<'a>, opcode: u8) -> Option<Opera
     }
 }
 
+/// Whether an operator that is read here begins with this byte.
+#[inline(always)]
+pub(crate) fn is_seldom(opcode: u8) -> bool {
+    match opcode {
+        0x05 | 0x0b | 0x1b | 0x25 | 0x26 | 0x3f | 0x40 | 0x43 | 0x44 => true,
+        0xd0 | 0xd1 | 0xd2 | 0xfc => true,
+        _ => false,
+    }
+}
+
 /// The next operator, if it is one that compilers write less often. Else the reader may stand
 /// anywhere in its input.
 #[inline]
