@@ -1,6 +1,6 @@
 -- Branch tables, each label of which is that of a block without types.
-use Rattle.std.proofs.Common.{◌≡◌, ◌≤◌, ◌<◌, ◌-◌, ℕ, zero, suc, true, ◌&&◌, List, [], ◌∷◌, refl, sym, ◌∙◌, ap, subst, arith}
-use Rattle.std.specs.Prelude.{Option, Some}
+use Rattle.std.proofs.Common.{◌≡◌, ◌<◌, ◌-◌, ℕ, zero, suc, true, List, [], ◌∷◌, refl, sym, ◌∙◌, ap, subst, arith}
+use Rattle.std.specs.Prelude.{Some}
 use Rattle.wasm_operator_blocks.specs.WasmOperatorChecks.WasmSpecRules.WasmSpec.Syntax.{Val, i32}
 use Rattle.wasm_readers.specs.Written.{written}
 use Rattle.wasm_operators.specs.WasmOperatorsPlain.WasmSpec.Values.{u32_at, many_at}

@@ -84,8 +84,7 @@ fn seldom_step<'a, A: Allocator, T: WasmModuleResources>(
 
 /// Reads the next operator and takes its step, where it is one that compilers write less often or
 /// `br_table` to labels that take nothing. Where that isn't done all stays.
-#[cold]
-#[inline(never)]
+#[inline(always)]
 #[tactic(auto, using(crate::proofs::Trying::tries))]
 fn step_otherwise<'a, A: Allocator, T: WasmModuleResources>(
     reader: &mut BinaryReader<'a>,
