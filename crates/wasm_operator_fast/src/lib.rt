@@ -26,5 +26,6 @@ pub mod operator_numbers {
 
 /// Passed on from `wasm_operator_control`.
 pub mod operator_control {
-    pub use wasm_operator_control::frame_at;
+    pub use wasm_operator_control::operator_stacks::Block;
+    pub use wasm_operator_control::{frame_at, peek};
 }

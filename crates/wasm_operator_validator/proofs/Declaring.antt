@@ -1,5 +1,5 @@
 -- Locals that are declared, or refused.
-use Rattle.std.proofs.Common.{◌≡◌, ℕ, ◌+◌, ◌<◌, ◌≤◌, Bool, true, false, List, ◌++◌, inl, inr, refl, sym, ◌∙◌, ap, length, arith}
+use Rattle.std.proofs.Common.{◌≡◌, ℕ, ◌+◌, ◌<◌, ◌≤◌, Bool, true, false, ◌++◌, inl, inr, sym, ◌∙◌, ap, length, arith}
 use Rattle.std.specs.Prelude.{Option, Some, None, Ok, Err, replicate, IsTrue, ◌↔◌}
 use Rattle.wasm_operator_blocks.specs.WasmOperatorChecks.WasmSpecRules.WasmSpec.Syntax.{Val}
 use Rattle.wasm_operator_blocks.specs.WasmOperatorChecks.WasmSpecRules.Limits.{most_locals}

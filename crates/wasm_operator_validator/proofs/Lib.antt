@@ -7,3 +7,6 @@ pub mod Written
 pub mod Reading
 pub mod Kept
 pub mod Answering
+pub mod Cited
+pub mod Trying
+pub mod Listed

@@ -1,21 +1,17 @@
 -- One step by any operator is the step of its family, where the code still stands in a frame.
-use Rattle.std.proofs.Common.{◌≡◌, ℕ, Bool, true, false, List, [], ◌∷◌, refl, sym, subst}
-use Rattle.std.specs.Prelude.{Some, None, Option, Result, Ok, Err, map}
+use Rattle.std.proofs.Common.{◌≡◌, true, false, refl, sym, subst}
+use Rattle.std.specs.Prelude.{None, Result}
 use Rattle.wasm_operator_blocks.specs.WasmOperatorChecks.WasmSpecRules.Contexts.{Context}
 use Rattle.wasm_readers_types.specs.WasmReadersValues.declared.indices.UnpackedIndex.{UnpackedIndex}
 use Rattle.wasm_operators.specs.Instructions.{Instruction}
 use Rattle.wasm_operators.specs.Maps.{map_instruction}
-use Rattle.wasm_operator_blocks.specs.WasmOperatorChecks.WasmSpecRules.Attempts.{◌>>=◌, guard}
-use Rattle.wasm_operator_blocks.specs.WasmOperatorChecks.WasmOperatorSteps.Machine.{State}
-use Rattle.wasm_operator_blocks.specs.WasmOperatorChecks.WasmOperatorSteps.Meanings.{run}
 use Rattle.wasm_operator_blocks.specs.WasmOperatorChecks.WasmOperatorSteps.Shapes.{shape_of}
-use Rattle.wasm_operator_blocks.specs.WasmOperatorChecks.WasmOperatorSteps.Steps.{step_in, actions_of, is_open}
+use Rattle.wasm_operator_blocks.specs.WasmOperatorChecks.WasmOperatorSteps.Steps.{step_in, is_open}
 use Rattle.wasm_operator_blocks.specs.WasmOperatorChecks.WasmValidatorResources.Answers.{world, written_index}
 use Rattle.wasm_operator_blocks.specs.WasmOperatorChecks.WasmOperatorStacks.Seen.{state_of, around}
 use Rattle.wasm_operator_blocks.specs.WasmOperatorChecks.WasmOperatorStacks.declared.stacks.Stacks.{Stacks}
 use Rattle.wasm_operator_blocks.specs.WasmOperatorChecks.Steps.{Took, acted, Performs}
 use Rattle.wasm_operator_blocks.specs.WasmOperatorChecks.declared.faults.OperatorError.{OperatorError}
-use Rattle.wasm_operator_blocks.specs.WasmOperatorChecks.declared.faults.OperatorError.TheVariants.{Refused, OutOfMemory}
 use Rattle.wasm_operator_validator.specs.Stepped.{Steps}
 use Rattle.wasm_operator_blocks.proofs.WasmOperatorChecks.Acting.{took_refused}
 

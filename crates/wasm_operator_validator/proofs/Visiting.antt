@@ -1,6 +1,6 @@
 -- One operator at an offset is the operator, with its refusal told there.
 use Rattle.std.proofs.Common.{ℕ}
-use Rattle.std.specs.Prelude.{Result, Ok, Err, ⊤}
+use Rattle.std.specs.Prelude.{Ok, Err}
 use Rattle.wasm_operator_blocks.specs.WasmOperatorChecks.WasmSpecRules.Contexts.{Context}
 use Rattle.wasm_readers_types.specs.WasmReadersValues.declared.indices.UnpackedIndex.{UnpackedIndex}
 use Rattle.wasm_readers.specs.WasmReadersErrors.declared.error.Error.{Error}

@@ -2,18 +2,112 @@
 
 ghost use Rattle.std.specs.Prelude.{◌≡◌, ◌≤◌, ◌<◌, ◌||◌, Some, false, not, is_ok, IfErr, OnOk, OnErr};
 ghost use Rattle.wasm_readers.specs.WasmReadersBytes.Reader.{SameInput, position_in, rest};
-ghost use Rattle.wasm_operator_blocks.specs.WasmOperatorChecks.WasmOperatorStacks.Seen.{Kept};
+ghost use Rattle.wasm_operator_blocks.specs.WasmOperatorChecks.WasmOperatorStacks.Seen.{state_of, Kept};
 ghost use Rattle.wasm_operator_validator.specs.Typed.{typed_state};
 ghost use Rattle.wasm_operator_validator.specs.Checked.{StandsIn};
 ghost use Rattle.wasm_operator_validator.specs.Reads.{ReadsStep, stepped};
 
+use crate::labels::table_step;
+use crate::seldom::{is_seldom, next_seldom};
+use crate::steps::step;
 use crate::validator::OperatorValidator;
 use std::alloc::Allocator;
+use wasm_operator_blocks::operator_checks::OperatorError;
+use wasm_operator_blocks::operator_stacks::Stacks;
 use wasm_operator_blocks::validator_resources::WasmModuleResources;
 use wasm_operator_fast::{NotTaken, fast_step};
 use wasm_operators::read_operator;
 use wasm_readers::BinaryReader;
 use wasm_readers::readers_errors::Error;
+
+/// Reads the next operator and takes its step, where it is one that compilers write less often. Where
+/// that isn't done the reader may stand further on.
+#[cold]
+#[inline(never)]
+fn step_read<'a, A: Allocator, T: WasmModuleResources>(
+    reader: &mut BinaryReader<'a>,
+    stacks: &mut Stacks<A>,
+    resources: &T,
+) -> Result<(), NotTaken>
+    ensures input { SameInput reader.old reader.new }
+    ensures further { OnOk result (position_in reader.old < position_in reader.new) }
+    ensures took { OnOk result (stepped (T.context resources.now) stacks.old reader.old
+        ≡ Some (state_of stacks.new, rest reader.new)) }
+    ensures left { OnErr result (state_of stacks.new ≡ state_of stacks.old) }
+    ensures same { Kept stacks.old stacks.new }
+{
+    match next_seldom(reader) {
+        Some(op) => match step(stacks, resources, &op) {
+            Ok(()) => Ok(()),
+            Err(OperatorError::Refused(_)) => Err(NotTaken::Left),
+            Err(OperatorError::OutOfMemory) => Err(NotTaken::OutOfMemory),
+        },
+        None => Err(NotTaken::Left),
+    }
+}
+
+/// Reads the next operator and takes its step, where it is one that compilers write less often.
+/// Where that isn't done all stays.
+#[inline(always)]
+fn seldom_step<'a, A: Allocator, T: WasmModuleResources>(
+    reader: &mut BinaryReader<'a>,
+    stacks: &mut Stacks<A>,
+    resources: &T,
+) -> Result<(), NotTaken>
+    ensures input { SameInput reader.old reader.new }
+    ensures further { OnOk result (position_in reader.old < position_in reader.new) }
+    ensures took { OnOk result (stepped (T.context resources.now) stacks.old reader.old
+        ≡ Some (state_of stacks.new, rest reader.new)) }
+    ensures unread { OnErr result (reader.new ≡ reader.old) }
+    ensures left { OnErr result (state_of stacks.new ≡ state_of stacks.old) }
+    ensures same { Kept stacks.old stacks.new }
+{
+    // What is lent can't be kept in registers, so that each look has a reader of its own.
+    let mut front = *reader;
+    match front.next_u8() {
+        Some(opcode) => {
+            if !is_seldom(opcode) {
+                return Err(NotTaken::Left);
+            }
+        }
+        None => return Err(NotTaken::Left),
+    }
+    let mut ahead = *reader;
+    match step_read(&mut ahead, stacks, resources) {
+        Ok(()) => {
+            reader.go_on_from(&ahead);
+            Ok(())
+        }
+        Err(error) => Err(error),
+    }
+}
+
+/// Reads the next operator and takes its step, where it is one that compilers write less often or
+/// `br_table` to labels that take nothing. Where that isn't done all stays.
+#[inline(always)]
+#[tactic(auto, using(crate::proofs::Trying::tries))]
+fn step_otherwise<'a, A: Allocator, T: WasmModuleResources>(
+    reader: &mut BinaryReader<'a>,
+    stacks: &mut Stacks<A>,
+    resources: &T,
+) -> Result<(), NotTaken>
+    ensures input { SameInput reader.old reader.new }
+    ensures further { OnOk result (position_in reader.old < position_in reader.new) }
+    ensures took { OnOk result (stepped (T.context resources.now) stacks.old reader.old
+        ≡ Some (state_of stacks.new, rest reader.new)) }
+    ensures unread { OnErr result (reader.new ≡ reader.old) }
+    ensures left { OnErr result (state_of stacks.new ≡ state_of stacks.old) }
+    ensures same { Kept stacks.old stacks.new }
+{
+    match seldom_step(reader, stacks, resources) {
+        Ok(()) => Ok(()),
+        Err(NotTaken::Left) => match table_step(reader, stacks, resources) {
+            Ok(()) => Ok(()),
+            Err(error) => Err(error),
+        },
+        Err(NotTaken::OutOfMemory) => Err(NotTaken::OutOfMemory),
+    }
+}
 
 impl<A: Allocator> OperatorValidator<A> {
     /// As [`OperatorValidator::frequent_op`], where nothing was refused.
@@ -22,6 +116,7 @@ impl<A: Allocator> OperatorValidator<A> {
     ///
     /// As [`OperatorValidator::frequent_op`].
     #[inline(always)]
+    #[tactic(auto, using(crate::proofs::Trying::tries))]
     pub fn fast_op<'a, T: WasmModuleResources>(
         &mut self,
         resources: &T,
@@ -37,8 +132,14 @@ impl<A: Allocator> OperatorValidator<A> {
         ensures same { Kept self.old.stacks self.new.stacks }
         ensures failed { self.new.failed ≡ false }
     {
-        fast_step(reader, &mut self.stacks, resources)?;
-        Ok(())
+        match fast_step(reader, &mut self.stacks, resources) {
+            Ok(()) => Ok(()),
+            Err(NotTaken::Left) => match step_otherwise(reader, &mut self.stacks, resources) {
+                Ok(()) => Ok(()),
+                Err(error) => Err(error),
+            },
+            Err(NotTaken::OutOfMemory) => Err(NotTaken::OutOfMemory),
+        }
     }
 
     /// Reads the next operator and takes its step, where it is a frequent one, its operands are of

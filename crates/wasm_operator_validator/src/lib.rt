@@ -4,7 +4,9 @@
 
 mod arity;
 mod bytes;
+mod labels;
 mod queries;
+mod seldom;
 mod steps;
 mod validator;
 mod visitor;
