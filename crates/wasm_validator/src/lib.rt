@@ -180,6 +180,7 @@ pub use wasm_validator_modules::readers::readers_errors::OperatorRule;
 pub use wasm_validator_modules::refused_modules_keep_types;
 pub use wasm_validator_modules::sections_add_their_items;
 pub use wasm_validator_modules::state_table;
+pub use wasm_validator_modules::types_are_valid;
 pub use wasm_validator_modules::validate;
 pub use wasm_validator_modules::validator_core::MAX_DATA_SEGMENTS as MAX_WASM_DATA_SEGMENTS;
 pub use wasm_validator_modules::validator_core::MAX_ELEMENT_SEGMENTS as MAX_WASM_ELEMENT_SEGMENTS;

@@ -23,3 +23,4 @@ pub mod Told
 pub mod Apart
 pub mod Counted
 pub mod Longer
+pub mod ValidLists
