@@ -7,3 +7,4 @@ pub mod Written
 pub mod Reading
 pub mod Kept
 pub mod Answering
+pub mod Ending

@@ -10,3 +10,4 @@ pub mod Visited
 pub mod Reads
 pub mod Checked
 pub mod Answered
+pub mod Ended
