@@ -67,6 +67,8 @@ pub use wasm_validator_modules::operator_validator::OperatorValidatorAllocations
 pub use wasm_validator_modules::operator_validator::OperatorVisitor;
 pub use wasm_validator_modules::operator_validator::TypeWord;
 pub use wasm_validator_modules::operator_validator::Word;
+pub use wasm_validator_modules::operator_validator::is_written_operator;
+pub use wasm_validator_modules::operator_validator::is_written_type;
 pub use wasm_validator_modules::operator_validator::operator_arity;
 pub use wasm_validator_modules::operators::ArrayOperator;
 pub use wasm_validator_modules::operators::AtomicOperator;
