@@ -9,6 +9,7 @@ use Rattle.wasm_operator_blocks.specs.WasmOperatorChecks.WasmOperatorSteps.Meani
 use Rattle.wasm_operator_blocks.specs.WasmOperatorChecks.declared.faults.OperatorError.{OperatorError}
 use Rattle.wasm_operator_blocks.specs.WasmOperatorChecks.declared.faults.OperatorError.TheVariants.{Refused, OutOfMemory}
 use Rattle.wasm_operator_validator.specs.Typed.{locals_in, declared_local, IsRefused, Defines}
+use Rattle.wasm_operator_validator.specs.Ended.{IsFailure}
 use Rattle.wasm_operator_validator.specs.declared.validator.OperatorValidator.{OperatorValidator}
 use Rattle.wasm_operator_validator.proofs.Defining.{local_is}
 
@@ -16,17 +17,17 @@ past : (k : ℕ) → (k ≤ most_locals → ⊥) → most_locals < k
 past k h = grind arith
 
 module _ {A : Type 0} (o : Option (Val UnpackedIndex)) (n : ℕ) (v w : OperatorValidator A) where
-  pub declared_behind : (e : OperatorError) → IsRefused e → v.failed ≡ true → Defines (Err e) o n v w
-  declared_behind (Refused f) r h = λ g. let q : true ≡ false = sym h ∙ g in cc
-  declared_behind OutOfMemory r h = tt
+  pub declared_behind : (e : OperatorError) → IsFailure (Err e) → v.failed ≡ true → locals_in w ≡ locals_in v → Defines (Err e) o n v w
+  declared_behind (Refused f) r h k = (k, λ g. let q : true ≡ false = sym h ∙ g in cc)
+  declared_behind OutOfMemory r h k = tt
 
-  pub declared_untyped : (e : OperatorError) → IsRefused e → o ≡ None → Defines (Err e) o n v w
-  declared_untyped (Refused f) r h = λ g. inl h
-  declared_untyped OutOfMemory r h = tt
+  pub declared_untyped : (e : OperatorError) → IsRefused e → o ≡ None → locals_in w ≡ locals_in v → Defines (Err e) o n v w
+  declared_untyped (Refused f) r h k = (k, λ g. inl h)
+  declared_untyped OutOfMemory r h k = tt
 
-  pub declared_past : (e : OperatorError) (b : Bool) → IsRefused e → (IsTrue b ↔ (length (locals_in v) + n ≤ most_locals)) → b ≡ false → Defines (Err e) o n v w
-  declared_past (Refused f) b r i h = λ g. inr (past (length (locals_in v) + n) (λ k. let q : true ≡ false = sym (i.1 k) ∙ h in cc))
-  declared_past OutOfMemory b r i h = tt
+  pub declared_past : (e : OperatorError) (b : Bool) → IsRefused e → (IsTrue b ↔ (length (locals_in v) + n ≤ most_locals)) → b ≡ false → locals_in w ≡ locals_in v → Defines (Err e) o n v w
+  declared_past (Refused f) b r i h k = (k, λ g. inr (past (length (locals_in v) + n) (λ m. let q : true ≡ false = sym (i.1 m) ∙ h in cc)))
+  declared_past OutOfMemory b r i h k = tt
 
   pub declared_not : (e : OperatorError) → e ≡ OutOfMemory → Defines (Err e) o n v w
   declared_not (Refused f) h = cc

@@ -10,3 +10,4 @@ pub mod Answering
 pub mod Cited
 pub mod Trying
 pub mod Listed
+pub mod Ending

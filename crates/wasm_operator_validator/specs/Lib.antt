@@ -11,3 +11,4 @@ pub mod Reads
 pub mod Checked
 pub mod Answered
 pub mod Labels
+pub mod Ended

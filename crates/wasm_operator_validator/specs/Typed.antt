@@ -65,5 +65,5 @@ IsRefused OutOfMemory = ⊥
 abbrev pub Defines : {A : Type 0} → Result (Unit {0}) OperatorError → Option (Val UnpackedIndex) → ℕ → OperatorValidator A → OperatorValidator A → Type 0
 Defines (Ok x) (Some t) n v w = (v.failed ≡ false) × (length (locals_in v) + n ≤ most_locals) × (locals_in w ≡ locals_in v ++ replicate n (declared_local t))
 Defines (Ok x) None n v w = ⊥
-Defines (Err (Refused f)) o n v w = v.failed ≡ false → (o ≡ None) ⊎ (most_locals < length (locals_in v) + n)
+Defines (Err (Refused f)) o n v w = (locals_in w ≡ locals_in v) × (v.failed ≡ false → (o ≡ None) ⊎ (most_locals < length (locals_in v) + n))
 Defines (Err OutOfMemory) o n v w = ⊤

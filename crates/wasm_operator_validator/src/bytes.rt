@@ -1,11 +1,14 @@
 //! Steps from bytes.
 
-ghost use Rattle.std.specs.Prelude.{◌≡◌, ◌≤◌, ◌<◌, ◌||◌, Some, false, not, is_ok, IfErr, OnOk, OnErr};
-ghost use Rattle.wasm_readers.specs.WasmReadersBytes.Reader.{SameInput, position_in, rest};
+ghost use Rattle.std.specs.Prelude.{◌≡◌, ◌≤◌, ◌<◌, ◌||◌, Some, true, false, not, is_ok, IfErr, OnOk, OnErr};
+ghost use Rattle.wasm_readers.specs.Written.{written};
+ghost use Rattle.wasm_readers.specs.WasmReadersBytes.Reader.{SameInput, position_in, place_of_next, rest};
+ghost use Rattle.wasm_operators.specs.Instructions.{instruction_at};
 ghost use Rattle.wasm_operator_blocks.specs.WasmOperatorChecks.WasmOperatorStacks.Seen.{state_of, Kept};
 ghost use Rattle.wasm_operator_validator.specs.Typed.{typed_state};
 ghost use Rattle.wasm_operator_validator.specs.Checked.{StandsIn};
 ghost use Rattle.wasm_operator_validator.specs.Reads.{ReadsStep, stepped};
+ghost use Rattle.wasm_operator_validator.specs.Ended.{EndsReading};
 
 use crate::labels::table_step;
 use crate::seldom::{is_seldom, next_seldom};
@@ -163,6 +166,7 @@ impl<A: Allocator> OperatorValidator<A> {
         ensures further { OnOk result (position_in reader.old < position_in reader.new) }
         ensures same { Kept self.old.stacks self.new.stacks }
         ensures going { OnOk result (self.new.failed ≡ false) }
+        ensures ended { self.old.failed ≡ true → result ≡ Err NotTaken.Left }
         ensures failed { self.new.failed ≡ self.old.failed }
     {
         if self.has_failed() {
@@ -180,6 +184,7 @@ impl<A: Allocator> OperatorValidator<A> {
     /// and all once something was refused. Answers want of memory.
     #[cold]
     #[inline(never)]
+    #[tactic(auto, using(crate::proofs::Ending::ends))]
     pub fn read_op<'a, T: WasmModuleResources>(
         &mut self,
         resources: &T,
@@ -188,6 +193,9 @@ impl<A: Allocator> OperatorValidator<A> {
         ensures took { self.old.failed ≡ false → ReadsStep result
             (stepped (T.context resources.now) self.old.stacks reader.old)
             (typed_state self.new) (rest reader.new) }
+        ensures ended { self.old.failed ≡ true → EndsReading result (place_of_next reader.old)
+            (instruction_at written (rest reader.old))
+            × (typed_state self.new ≡ typed_state self.old) }
         ensures input { SameInput reader.old reader.new }
         ensures onward { position_in reader.old ≤ position_in reader.new }
         ensures further { OnOk result (position_in reader.old < position_in reader.new) }

@@ -30,8 +30,7 @@ fn takes_nothing<A: Allocator, T: WasmModuleResources>(
     match frame_at(stacks, depth as usize) {
         Some(frame) => match frame.block.seen() {
             Block::Empty => true,
-            Block::Value(_) => false,
-            Block::Func(_) => false,
+            Block::Value(_) | Block::Func(_) => false,
         },
         None => false,
     }

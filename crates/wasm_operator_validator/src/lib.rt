@@ -10,6 +10,7 @@ mod seldom;
 mod steps;
 mod validator;
 mod visitor;
+mod written_types;
 
 pub use arity::{func_type_of, tag_arity};
 pub use queries::Frame;
@@ -20,3 +21,4 @@ pub use wasm_operator_arity::{FrameStack, ModuleArity, counts_are_lengths, opera
 pub use wasm_operator_blocks::operator_checks::{OperatorError, OperatorFault};
 pub use wasm_operator_blocks::operator_stacks::{Operand, TypeWord, Word};
 pub use wasm_operator_fast::NotTaken;
+pub use written_types::{is_written_operator, is_written_type};

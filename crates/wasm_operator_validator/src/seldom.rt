@@ -60,17 +60,12 @@ fn next_heap_type(reader: &mut BinaryReader) -> Option<HeapType>
     ensures some { IfSome result (λ h. heap_at written (rest reader.old)
         ≡ Some (heap_of h, rest reader.new)) }
 {
-    match reader.next_u8()? {
-        0x70 => Some(HeapType::Abstract {
-            shared: false,
-            ty: AbstractHeapType::Func,
-        }),
-        0x6f => Some(HeapType::Abstract {
-            shared: false,
-            ty: AbstractHeapType::Extern,
-        }),
-        _ => None,
-    }
+    let ty = match reader.next_u8()? {
+        0x70 => AbstractHeapType::Func,
+        0x6f => AbstractHeapType::Extern,
+        _ => return None,
+    };
+    Some(HeapType::Abstract { shared: false, ty })
 }
 
 /// The saturating truncation of this code behind the prefix `0xfc`, if there is one.

@@ -12,6 +12,7 @@ ghost use Rattle.wasm_operator_blocks.specs.WasmOperatorChecks.WasmOperatorStack
 ghost use Rattle.wasm_operator_fast.specs.WasmOperatorControl.Blocks.{function_in};
 ghost use Rattle.wasm_operator_validator.specs.Stepped.{Steps, IsWrittenInstruction};
 ghost use Rattle.wasm_operator_validator.specs.Visited.{IsToldAt, StepsAt};
+ghost use Rattle.wasm_operator_validator.specs.Ended.{IsFailure, failure_at};
 ghost use Rattle.wasm_operator_validator.specs.Typed.{typed_state, parameter, BeginsBody, BeginsConstant, Defines, HasMany, IsRefused};
 
 use crate::steps::step;
@@ -47,6 +48,20 @@ fn refuse(rule: OperatorRule) -> OperatorError
     ensures { IsRefused result }
 {
     OperatorError::Refused(OperatorFault::new(rule))
+}
+
+/// The refusal of all that comes once something was refused.
+#[inline(never)]
+fn failure() -> OperatorError
+    ensures { IsFailure (Err result) }
+{
+    let fault = OperatorFault {
+        rule: OperatorRule::Failed,
+        number: 0,
+        expected: TypeWord::new(ValType::I32),
+        found: None,
+    };
+    OperatorError::Refused(fault)
 }
 
 impl<A: Allocator + Copy> OperatorValidatorAllocations<A> {
@@ -250,13 +265,14 @@ impl<A: Allocator> OperatorValidator<A> {
         requires { IsWrittenVal (val_of ty) }
         ensures defined { Defines result (val_in (T.context resources.now)
             (features_of self.old.stacks.features) (val_of ty)) count self.old self.new }
+        ensures ended { self.old.failed ≡ true → IsFailure result }
         ensures state { typed_state self.new ≡ typed_state self.old }
         ensures features { self.new.stacks.features ≡ self.old.stacks.features }
         ensures shared { self.new.stacks.is_shared ≡ self.old.stacks.is_shared }
         ensures failed { self.new.failed ≡ (self.old.failed || not (is_ok result)) }
     {
         if self.failed {
-            return Err(refuse(OperatorRule::Failed));
+            return Err(failure());
         }
         self.failed = true;
         let resolved = match resolve_type(resources, self.stacks.features, ty) {
@@ -287,13 +303,13 @@ impl<A: Allocator> OperatorValidator<A> {
         requires { IsWrittenInstruction (operator_of op.now) }
         ensures took { self.old.failed ≡ false → Steps result (T.context resources.now)
             (operator_of op.now) self.old.stacks self.new.stacks }
-        ensures ended { self.old.failed ≡ true → (is_ok result ≡ false)
+        ensures ended { self.old.failed ≡ true → IsFailure result
             × (typed_state self.new ≡ typed_state self.old) }
         ensures same { Kept self.old.stacks self.new.stacks }
         ensures failed { self.new.failed ≡ self.old.failed }
     {
         if self.failed {
-            return Err(refuse(OperatorRule::Failed));
+            return Err(failure());
         }
         step(&mut self.stacks, resources, op)
     }
@@ -313,13 +329,13 @@ impl<A: Allocator> OperatorValidator<A> {
         requires { IsWrittenInstruction (operator_of op.now) }
         ensures took { self.old.failed ≡ false → Steps result (T.context resources.now)
             (operator_of op.now) self.old.stacks self.new.stacks }
-        ensures ended { self.old.failed ≡ true → (is_ok result ≡ false)
+        ensures ended { self.old.failed ≡ true → IsFailure result
             × (typed_state self.new ≡ typed_state self.old) }
         ensures same { Kept self.old.stacks self.new.stacks }
         ensures failed { self.new.failed ≡ (self.old.failed || not (is_ok result)) }
     {
         if self.failed {
-            return Err(refuse(OperatorRule::Failed));
+            return Err(failure());
         }
         match step(&mut self.stacks, resources, op) {
             Ok(()) => Ok(()),
@@ -337,7 +353,7 @@ impl<A: Allocator> OperatorValidator<A> {
     ///
     /// Refuses at the offset what `op` refuses, by the rule that is broken, and with the proposal
     /// that would lift the refusal, where one would; answers want of memory.
-    #[tactic(auto, using(crate::proofs::Visiting::visits))]
+    #[tactic(auto, using(crate::proofs::Visiting::visits, crate::proofs::Ending::ends))]
     pub fn op_at<'a, T: WasmModuleResources>(
         &mut self,
         resources: &T,
@@ -348,7 +364,7 @@ impl<A: Allocator> OperatorValidator<A> {
         ensures took { self.old.failed ≡ false → StepsAt result offset (T.context resources.now)
             (operator_of op.now) self.old.stacks self.new.stacks }
         ensures told { IfErr result (IsToldAt offset) }
-        ensures ended { self.old.failed ≡ true → (is_ok result ≡ false)
+        ensures ended { self.old.failed ≡ true → (result ≡ failure_at offset)
             × (typed_state self.new ≡ typed_state self.old) }
         ensures same { Kept self.old.stacks self.new.stacks }
         ensures failed { self.new.failed ≡ (self.old.failed || not (is_ok result)) }

@@ -6,6 +6,7 @@ ghost use Rattle.wasm_operator_blocks.specs.WasmOperatorChecks.WasmOperatorStack
 ghost use Rattle.wasm_operator_validator.specs.Stepped.{IsWrittenInstruction};
 ghost use Rattle.wasm_operator_validator.specs.Typed.{typed_state};
 ghost use Rattle.wasm_operator_validator.specs.Visited.{IsToldAt, StepsAt};
+ghost use Rattle.wasm_operator_validator.specs.Ended.{failure_at};
 
 use crate::validator::OperatorValidator;
 use std::alloc::{Allocator, Global};
@@ -53,7 +54,7 @@ impl<'v, 'r, T: WasmModuleResources, A: Allocator> OperatorVisitor<'v, 'r, T, A>
             (T.context self.old.resources.now) (operator_of op.now)
             self.old.validator.now.stacks self.new.validator.now.stacks }
         ensures told { IfErr result (IsToldAt offset) }
-        ensures ended { self.old.validator.now.failed ≡ true → (is_ok result ≡ false)
+        ensures ended { self.old.validator.now.failed ≡ true → (result ≡ failure_at offset)
             × (typed_state self.new.validator.now ≡ typed_state self.old.validator.now) }
         ensures same { Kept self.old.validator.now.stacks self.new.validator.now.stacks }
         ensures failed { self.new.validator.now.failed

@@ -13,3 +13,4 @@ pub mod SeenLittle
 pub mod Renamed
 pub mod SeenAlone
 pub mod RenamedBodies
+pub mod OneToOne

@@ -7,3 +7,4 @@ pub mod Laws
 pub mod Examples
 pub mod OtherContexts
 pub mod Renaming
+pub mod OneToOne

@@ -8,6 +8,7 @@
 ghost use Rattle.wasm_spec_validity.specs.Laws.{TypesAreNumbered, NumbersTellTypesApart, PlainModulesAreValid, ExpressionsAreWhole, OwnReferencesSuffice};
 ghost use Rattle.wasm_spec_validity.specs.OtherContexts.{ConstantsSeeLittle, ConstantsRename};
 ghost use Rattle.wasm_spec_validity.specs.Examples.{NumberIsConstant, NumberOfAnotherType, NoTwoEnds, NoMissingEnd, FirstGlobalIsRead, NoMutableGlobalIsRead, NoGlobalIsReadWithoutGc, ImportedGlobalIsRead, NoGlobalReadsItself, SumIsConstant, NoSumWithoutExtendedConst, TableReadsImportedGlobal, NoTableReadsOwnGlobal, OffsetsAreAddresses, NoOtherDataOffsets, NoOtherElementOffsets, OffsetReadsGlobal, FunctionAndNullAreItems, NoNullItem, GlobalsComeBehindImports, BodiesGiveResults, NoExchangedBodies, NoLastBodyWithoutEnd, OneGlobalIsImported, ReadToItsEnd, NothingReadWithoutEnd, FunctionIsNamed, GlobalIsModule, NoGlobalOfAnotherType};
+ghost use Rattle.wasm_spec_validity.specs.OneToOne.{NumberingsSayTheSame};
 ghost use Rattle.wasm_spec_validity.specs.Renaming.{BodiesAreRenamed, TypedBodiesAreRenamed};
 
 /// Each list of types has a numbering by first appearance, and a numbering tells them apart.
@@ -109,4 +110,11 @@ pub fn bodies_are_renamed<R, S>()
 /// conditions.
 pub fn typed_bodies_are_renamed<R, S>()
     ensures bodies { TypedBodiesAreRenamed R S }
+{}
+
+/// No verdict on a body or on a constant expression depends on the identities of the types of the
+/// context: each two numberings that are one-to-one below a limit, one of which may be the numbers
+/// themselves, give the same, whatever the limit is.
+pub fn numberings_say_the_same<R, S>()
+    ensures same { NumberingsSayTheSame R S }
 {}

@@ -67,6 +67,8 @@ pub use wasm_validator_modules::operator_validator::OperatorValidatorAllocations
 pub use wasm_validator_modules::operator_validator::OperatorVisitor;
 pub use wasm_validator_modules::operator_validator::TypeWord;
 pub use wasm_validator_modules::operator_validator::Word;
+pub use wasm_validator_modules::operator_validator::is_written_operator;
+pub use wasm_validator_modules::operator_validator::is_written_type;
 pub use wasm_validator_modules::operator_validator::operator_arity;
 pub use wasm_validator_modules::operators::ArrayOperator;
 pub use wasm_validator_modules::operators::AtomicOperator;
@@ -180,6 +182,7 @@ pub use wasm_validator_modules::readers::readers_errors::OperatorRule;
 pub use wasm_validator_modules::refused_modules_keep_types;
 pub use wasm_validator_modules::sections_add_their_items;
 pub use wasm_validator_modules::state_table;
+pub use wasm_validator_modules::types_are_valid;
 pub use wasm_validator_modules::validate;
 pub use wasm_validator_modules::validator_core::MAX_DATA_SEGMENTS as MAX_WASM_DATA_SEGMENTS;
 pub use wasm_validator_modules::validator_core::MAX_ELEMENT_SEGMENTS as MAX_WASM_ELEMENT_SEGMENTS;

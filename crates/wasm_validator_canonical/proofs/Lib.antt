@@ -22,3 +22,5 @@ pub mod KeptDepths
 pub mod Told
 pub mod Apart
 pub mod Counted
+pub mod Longer
+pub mod ValidLists

@@ -19,6 +19,11 @@ use Rattle.wasm_validator_type_list.specs.Refused.{IsFull}
 use Rattle.wasm_validator_canonical.specs.Answers.{AddsIds, AddsGroup}
 use Rattle.wasm_validator_canonical.specs.Groups.{AreValid, with_written}
 
+-- The second list begins with the groups of the first: none is dropped, and none is changed.
+pub record KeepsGroups {A : Type 0} (old new : Listing A) : Type 0 where
+  pub more : List (List (SubType A))
+  pub groups : new.groups ≡ old.groups ++ more
+
 -- the group is in the list, found or new, and these are the ids of its types
 pub record InternsUnder {A : Type 0} (old new : Listing A) (g : List (SubType A)) (ids : List ℕ) : Type 0 where
   pub is_new : Bool

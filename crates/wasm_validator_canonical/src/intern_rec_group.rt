@@ -4,8 +4,8 @@
 //! Refusals come in this order: the number of types, of which only the group's count where equal
 //! types are one; how the group is written, index by index; where equal types are one and the group
 //! is new, the number of types in the list; and the rules of each type, over the ids that the types
-//! have in the list by then. A refused group may already be in the list, which is then only to be
-//! dropped.
+//! have in the list by then. A refused group may already be in the list, behind what the list had,
+//! which is then only to be dropped.
 
 ghost use Rattle.std.specs.Prelude.{◌≡◌, ◌+◌, ◌<◌, ◌≤◌, ◌^◌, true, false, not, ◌||◌, map, length, is_ok, IfOk, IfErr, OnOk, IsTrue};
 ghost use Rattle.std.specs.Bool.{Decides};
@@ -27,7 +27,7 @@ ghost use Rattle.wasm_validator_canonical.specs.Groups.{has_form, allows_written
 ghost use Rattle.wasm_validator_canonical.specs.Answers.{Says, IsRefusal, IsAt};
 ghost use Rattle.wasm_validator_canonical.specs.Refusals.{rec_without_gc, extends_many};
 ghost use Rattle.wasm_validator_canonical.specs.Depths.{KeepsDepth, StillKept};
-ghost use Rattle.wasm_validator_canonical.specs.Interned.{next_ids, AddsWritten, InternsValid};
+ghost use Rattle.wasm_validator_canonical.specs.Interned.{next_ids, AddsWritten, KeepsGroups, InternsValid};
 ghost use Rattle.wasm_validator_canonical.specs.Told.{counted_first, FitsFirst, IfContent, ToldOfWritten, ToldOfInterned, ToldOfAdded};
 
 use crate::depths::keep_depths;
@@ -116,8 +116,9 @@ fn counted_first(is_canonical: bool, held: usize) -> usize
 ///
 /// Refused, at the offset, where the list would have more types than there are ids, where an index is
 /// out of bounds, and where a rule doesn't hold; and where memory is. Where equal types are one the
-/// ids are asked for once the group is known to be new, and else first. The list is then only to be
-/// dropped.
+/// ids are asked for once the group is known to be new, and else first. The list then still begins
+/// with all that it had, and may have the group behind it: it is only to be dropped.
+#[tactic(auto, using(crate::proofs::Longer::lists_begin))]
 pub fn canonicalize_and_intern_rec_group<A: Allocator + Copy>(
     features: WasmFeatures,
     alloc: A,
@@ -152,6 +153,7 @@ pub fn canonicalize_and_intern_rec_group<A: Allocator + Copy>(
         → IsRefusal result (rec_without_gc offset) }
     ensures told { IfErr result (IfContent (ToldOfAdded features offset types.old
         (numbers ids.now) (rec_of group))) }
+    ensures kept_groups { KeepsGroups types.old types.new }
     ensures same_open { types.new.is_open ≡ types.old.is_open }
     ensures same_mode { types.new.is_canonical ≡ types.old.is_canonical }
 {
@@ -197,6 +199,7 @@ fn check_if_new<A: Allocator + Copy>(
 }
 
 /// Interns the group, checks its types where it is new, and says their ids.
+#[tactic(auto, using(crate::proofs::Longer::lists_begin))]
 fn intern<A: Allocator + Copy>(
     features: WasmFeatures,
     types: &mut TypeList<A>,
@@ -212,6 +215,7 @@ fn intern<A: Allocator + Copy>(
     ensures place { IfErr result (IsAt offset) }
     ensures told { IfErr result (IfContent (ToldOfInterned features offset types.old
         group.types)) }
+    ensures kept_groups { KeepsGroups types.old types.new }
     ensures same_open { types.new.is_open ≡ types.old.is_open }
     ensures same_mode { types.new.is_canonical ≡ types.old.is_canonical }
 {

@@ -18,10 +18,12 @@ mod depths;
 mod intern_rec_group;
 mod modules;
 mod type_canonicalizer;
+mod valid_lists;
 
 pub use intern_rec_group::{canonicalize_and_intern_rec_group, needs_type_canonicalization};
 pub use modules::{InternRecGroup, intern_rec_group_of};
 pub use type_canonicalizer::TypeCanonicalizer;
+pub use valid_lists::types_are_valid;
 
 /// The groups of a module's type section, added one after another, are accepted exactly where the
 /// section is valid (Core Specification 3.0, Validation, Modules, Types) and there are ids for its

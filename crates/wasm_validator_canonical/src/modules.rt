@@ -9,7 +9,7 @@ ghost use Rattle.wasm_validator_type_list.specs.Listing.{types_in};
 ghost use Rattle.wasm_validator_type_list.specs.DefTypes.{types_of_list};
 ghost use Rattle.wasm_validator_canonical.specs.Groups.{has_form, AreValid};
 ghost use Rattle.wasm_validator_canonical.specs.Answers.{IsAt};
-ghost use Rattle.wasm_validator_canonical.specs.Interned.{next_ids, AddsWrittenGroup};
+ghost use Rattle.wasm_validator_canonical.specs.Interned.{next_ids, AddsWrittenGroup, KeepsGroups};
 ghost use Rattle.wasm_validator_canonical.specs.Refusals.{unknown_type};
 ghost use Rattle.wasm_validator_canonical.specs.Told.{IfContent, ToldOfAdded};
 ghost use Rattle.wasm_validator_canonical.specs.Indices.{numbers};
@@ -155,7 +155,8 @@ fn id_at(ids: &[CoreTypeId], index: u32, offset: u64) -> Result<CoreTypeId, Refu
 /// # Errors
 ///
 /// Refused where the group can't be added, as by [`canonicalize_and_intern_rec_group`], and where
-/// memory is. The module and the list are then only to be dropped.
+/// memory is. The list then still begins with all that it had; it and the module are only to be
+/// dropped.
 pub fn intern_rec_group_of<A: Allocator + Copy, M: InternRecGroup<A>>(
     target: &mut M,
     features: WasmFeatures,
@@ -183,6 +184,7 @@ pub fn intern_rec_group_of<A: Allocator + Copy, M: InternRecGroup<A>>(
     ensures place { IfErr result (IsAt offset) }
     ensures told { IfErr result (IfContent (ToldOfAdded features offset types.old
         (M.ids target.old) (rec_of group))) }
+    ensures kept_groups { KeepsGroups types.old types.new }
     ensures same_open { types.new.is_open ≡ types.old.is_open }
     ensures same_mode { types.new.is_canonical ≡ types.old.is_canonical }
 {

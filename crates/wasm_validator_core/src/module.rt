@@ -16,6 +16,7 @@ ghost use Rattle.wasm_validator_checks.specs.WasmValidatorTypes.Entities.{entity
 ghost use Rattle.wasm_validator_checks.specs.WasmValidatorTypeList.DefTypes.{types_of_list};
 ghost use Rattle.wasm_validator_checks.specs.WasmValidatorTypes.Spaces.{no_spaces};
 ghost use Rattle.wasm_validator_checks.specs.WasmValidatorCanonical.Groups.{has_form, AreValid};
+ghost use Rattle.wasm_validator_checks.specs.WasmValidatorCanonical.Interned.{KeepsGroups};
 ghost use Rattle.wasm_validator_checks.specs.WasmValidatorCanonical.Indices.{canonical_index};
 ghost use Rattle.wasm_validator_core.specs.Errors.{IsAt, IsMemory, IfContent};
 ghost use Rattle.wasm_validator_core.specs.Answers.{Adds, AddsWhere, HasValidTypes};
@@ -98,8 +99,8 @@ impl<A: Allocator + Copy> Module<A> {
     /// # Errors
     ///
     /// Refused where the module would have too many types, where the group can't be added to the
-    /// list or one of its types isn't valid, and where memory is refused. The module and the list
-    /// are then only to be dropped.
+    /// list or one of its types isn't valid, and where memory is refused. The list then still begins
+    /// with all that it had; it and the module are only to be dropped.
     pub fn add_types(
         &mut self,
         features: WasmFeatures,
@@ -117,6 +118,7 @@ impl<A: Allocator + Copy> Module<A> {
             (types_of_list list.new, self.new) }
         ensures valid { OnOk result (AreValid (features_of features) (types_of_list list.new)) }
         ensures open { IsOpenFor features list.new }
+        ensures kept_groups { KeepsGroups list.old list.new }
         ensures ids { OnOk result (AreIdsOf list.new self.new.types) }
         ensures place { IfErr result (IsAt offset) }
         ensures told { IfErr result (IfContent (ToldOfAddedGroup features offset

@@ -19,10 +19,11 @@ use Rattle.wasm_operator_validator.specs.WasmOperatorChecks.Told.{TellsError}
 use Rattle.wasm_operator_validator.specs.WasmOperatorChecks.declared.faults.OperatorError.{OperatorError}
 use Rattle.wasm_operator_validator.specs.WasmOperatorChecks.declared.faults.OperatorError.TheVariants.{Refused, OutOfMemory}
 use Rattle.wasm_operator_validator.specs.Typed.{locals_in, Defines}
+use Rattle.wasm_operator_validator.proofs.Ending.{failure_told, no_failure}
 use Rattle.wasm_operator_validator.specs.declared.validator.OperatorValidator.{OperatorValidator}
 use Rattle.wasm_validator_func.specs.Bodies.{more_locals, declared_from, locals_from}
 use Rattle.wasm_operator_steps.specs.FunctionBodies.{Declaration, declaration_at, local_declared, type_of}
-use Rattle.wasm_validator_func.specs.Validated.{Goes, DeclaredAt, Declares}
+use Rattle.wasm_validator_func.specs.Validated.{Goes, DeclaredAt, KeepsLocals, Declares}
 
 heap_allowed : (F : Features) (nullable : Bool) (h : Heap UnpackedIndex) → allows_heap F nullable (map_heap written_index h) ≡ allows_heap F nullable h
 heap_allowed F nullable (abstract_heap s a) = refl
@@ -73,10 +74,18 @@ module _ {A : Type 0} (offset n : ℕ) (v w : OperatorValidator A) where
       → TellsError e offset r → v.failed ≡ false
       → DeclaredAt offset (Err r) (more_locals (features_of v.stacks.features) C.types (record { count = n; content = map_val written_index x }) (locals_in v)) (locals_in w)
   not_declared C x (Refused f) (error.Refused q) d t g =
-      (ap (more_of n (locals_in v)) (same_type (features_of v.stacks.features) C x) ∙ not_more n (locals_in v) (val_in C (features_of v.stacks.features) x) (d g), t.0)
+      (ap (more_of n (locals_in v)) (same_type (features_of v.stacks.features) C x) ∙ not_more n (locals_in v) (val_in C (features_of v.stacks.features) x) (d.1 g), t.0)
   not_declared C x (Refused f) error.OutOfMemory d t g = absurd t
   not_declared C x OutOfMemory (error.Refused q) d t g = absurd t
   not_declared C x OutOfMemory error.OutOfMemory d t g = tt
+
+-- a refused declaration keeps the locals
+pub refused_keeps : {A : Type 0} (offset n : ℕ) (v w : OperatorValidator A) (o : Option (Val UnpackedIndex)) (e : OperatorError) (r : Error)
+    → Defines (Err e) o n v w → TellsError e offset r → KeepsLocals (Err r) (locals_in v) (locals_in w)
+refused_keeps offset n v w o (Refused f) (error.Refused q) d t = d.0
+refused_keeps offset n v w o (Refused f) error.OutOfMemory d t = tt
+refused_keeps offset n v w o OutOfMemory (error.Refused q) d t = absurd t
+refused_keeps offset n v w o OutOfMemory error.OutOfMemory d t = tt
 
 pub goes_on : {A : Type 0} (u v w : OperatorValidator A) → Goes u v → Goes v w → Goes u w
 goes_on u v w j k = record { features = k.features ∙ j.features; shared = k.shared ∙ j.shared }
@@ -84,7 +93,7 @@ goes_on u v w j k = record { features = k.features ∙ j.features; shared = k.sh
 pub goes : {A : Type 0} (v : OperatorValidator A) → Goes v v
 goes v = record { features = refl; shared = refl }
 
-pub ruleset declares = (declared_so, not_declared)
+pub ruleset declares = (declared_so, not_declared, refused_keeps, failure_told, no_failure)
 
 -- one declaration after another
 module _ {R : Type 0} (F : Features) (types : List R) where

@@ -20,6 +20,7 @@ use Rattle.wasm_operator_validator.specs.WasmOperatorChecks.declared.faults.Oper
 use Rattle.wasm_operator_validator.specs.Stepped.{Steps}
 use Rattle.wasm_operator_validator.specs.Visited.{SaysAt, StepsAt}
 use Rattle.wasm_operator_validator.specs.Checked.{StandsIn, TookAt}
+use Rattle.wasm_operator_validator.proofs.Ending.{failure_told, no_failure}
 
 module _ {A : Type 0} (offset : ℕ) (C : Context UnpackedIndex) (op : Instruction UnpackedIndex) (v w : Stacks A) where
   abbrev step : Option (State UnpackedIndex)
@@ -44,7 +45,7 @@ module _ {A : Type 0} (offset : ℕ) (C : Context UnpackedIndex) (op : Instructi
   pub not_tried : (e : OperatorError) (r : Error) → TellsError e offset r → Steps (Err e) C op v w → StepsAt (Err r) offset C op v w
   not_tried e r t p = (Err e, (t, p))
 
-pub ruleset tries = (tried, not_tried)
+pub ruleset tries = (tried, not_tried, failure_told, no_failure)
 
 -- what stands in the rest of some bytes stands in them
 pub stands_behind : (r s : BinaryReader) (e : Error) → SameInput r s → position_in r ≤ position_in s → StandsIn s e → StandsIn r e

@@ -47,6 +47,12 @@ DeclaredAt offset (Ok x) o ls = o ≡ Some ls
 DeclaredAt offset (Err (Refused r)) o ls = (o ≡ None) × (r.offset ≡ offset)
 DeclaredAt offset (Err OutOfMemory) o ls = ⊤
 
+-- a refused declaration keeps the locals
+abbrev pub KeepsLocals : Result (Unit {0}) Error → List (Local UnpackedIndex) → List (Local UnpackedIndex) → Type 0
+KeepsLocals (Ok x) old new = ⊤
+KeepsLocals (Err (Refused r)) old new = new ≡ old
+KeepsLocals (Err OutOfMemory) old new = ⊤
+
 -- declarations: the locals then and the bytes behind them, or none where they are refused
 abbrev pub Declares : Result (Unit {0}) Error → Option (List (Local UnpackedIndex) × List ℕ) → List (Local UnpackedIndex) → List ℕ → Type 0
 Declares (Ok x) o ls more = o ≡ Some (ls, more)

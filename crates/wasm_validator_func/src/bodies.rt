@@ -2,6 +2,7 @@
 
 ghost use Rattle.std.specs.Prelude.{◌≡◌, ◌≤◌, ◌<◌, ◌||◌, not, true, false, is_ok, IfErr, OnOk};
 ghost use Rattle.wasm_readers_bytes.specs.Reader.{SameInput, position_in, rest};
+ghost use Rattle.wasm_readers_errors.specs.Refusals.{plain};
 ghost use Rattle.wasm_parser.specs.Seen.{body_of, body_reader};
 ghost use Rattle.wasm_validator_resources.specs.Answers.{world};
 ghost use Rattle.wasm_operator_stacks.specs.Seen.{Kept};
@@ -22,7 +23,8 @@ use wasm_validator_resources::WasmModuleResources;
 /// The refusal by a rule, at this offset.
 #[inline(never)]
 pub(crate) fn refused(rule: OperatorRule, offset: u64) -> Error
-    ensures { IsRefusedAt offset result }
+    ensures place { IsRefusedAt offset result }
+    ensures told { result ≡ Error.Refused (plain (Fault.Operator rule 0) offset) }
 {
     Error::Refused(Refusal::new(Fault::Operator(rule, 0), offset))
 }

@@ -2,7 +2,7 @@
 
 ghost use Rattle.std.specs.Prelude.{◌≡◌, ◌≤◌, ◌<◌, ◌^◌, ◌-◌, ◌||◌, true, false, not, is_ok, is_some, length, slice_get, IfOk, IfErr, OnOk, OnErr};
 ghost use Rattle.std.specs.Option.{option_map};
-ghost use Rattle.wasm_readers_bytes.specs.Reader.{SameInput, position_in, rest};
+ghost use Rattle.wasm_readers_bytes.specs.Reader.{SameInput, position_in, place_of_next, rest};
 ghost use Rattle.wasm_spec_rules.specs.FeatureFlags.{features_of};
 ghost use Rattle.wasm_parser.specs.Seen.{body_of, body_reader};
 ghost use Rattle.wasm_readers_types.specs.WasmReadersValues.SeenValues.{val_of};
@@ -15,8 +15,9 @@ ghost use Rattle.wasm_operator_validator.specs.Visited.{StepsAt};
 ghost use Rattle.wasm_operator_validator.specs.Typed.{typed_state, locals_in, BeginsBody};
 ghost use Rattle.wasm_operator_validator.specs.Shown.{known_type, shown_frame};
 ghost use Rattle.wasm_operator_validator.specs.Checked.{StandsIn};
+ghost use Rattle.wasm_operator_validator.specs.Ended.{failure_at};
 ghost use Rattle.wasm_validator_func.specs.Functions.{IsFunctionBody, Decides, HasMore, StandsFirst, StandsInOrFirst};
-ghost use Rattle.wasm_validator_func.specs.Validated.{declaration_of, declared_in, listed_in, body_in, Goes, DeclaredAt, Declares, Validates};
+ghost use Rattle.wasm_validator_func.specs.Validated.{declaration_of, declared_in, listed_in, body_in, Goes, DeclaredAt, KeepsLocals, Declares, Validates};
 
 use crate::bodies::{check_body, refused};
 use crate::locals::{define, read_declarations};
@@ -241,7 +242,9 @@ impl<T: WasmModuleResources, A: Allocator> FuncValidator<T, A> {
         ensures took { self.old.validator.failed ≡ false → Validates result
             (body_in self.old.validator (T.context self.old.resources) (body_of body.now))
             (locals_in self.new.validator) (typed_state self.new.validator) }
-        ensures ended { self.old.validator.failed ≡ true → is_ok result ≡ false }
+        ensures ended { self.old.validator.failed ≡ true
+            → (result ≡ failure_at (place_of_next (body_reader body.now)))
+            × (self.new.validator ≡ self.old.validator) }
         ensures failed { self.new.validator.failed
             ≡ (self.old.validator.failed || not (is_ok result)) }
         ensures goes { Goes self.old.validator self.new.validator }
@@ -267,7 +270,9 @@ impl<T: WasmModuleResources, A: Allocator> FuncValidator<T, A> {
         ensures declared { self.old.validator.failed ≡ false → Declares result
             (listed_in self.old.validator (T.context self.old.resources) (rest reader.old))
             (locals_in self.new.validator) (rest reader.new) }
-        ensures ended { self.old.validator.failed ≡ true → is_ok result ≡ false }
+        ensures ended { self.old.validator.failed ≡ true
+            → (result ≡ failure_at (place_of_next reader.old))
+            × (self.new.validator ≡ self.old.validator) × (reader.new ≡ reader.old) }
         ensures failed { self.new.validator.failed
             ≡ (self.old.validator.failed || not (is_ok result)) }
         ensures state { typed_state self.new.validator ≡ typed_state self.old.validator }
@@ -297,7 +302,9 @@ impl<T: WasmModuleResources, A: Allocator> FuncValidator<T, A> {
         ensures declared { self.old.validator.failed ≡ false → DeclaredAt offset result
             (declared_in self.old.validator (T.context self.old.resources)
             (declaration_of count ty)) (locals_in self.new.validator) }
-        ensures ended { self.old.validator.failed ≡ true → is_ok result ≡ false }
+        ensures kept { KeepsLocals result (locals_in self.old.validator)
+            (locals_in self.new.validator) }
+        ensures ended { self.old.validator.failed ≡ true → result ≡ failure_at offset }
         ensures state { typed_state self.new.validator ≡ typed_state self.old.validator }
         ensures goes { Goes self.old.validator self.new.validator }
         ensures same { (self.new.resources ≡ self.old.resources)
@@ -320,7 +327,7 @@ impl<T: WasmModuleResources, A: Allocator> FuncValidator<T, A> {
         ensures took { self.old.validator.failed ≡ false → StepsAt result offset
             (T.context self.old.resources) (operator_of op.now)
             self.old.validator.stacks self.new.validator.stacks }
-        ensures ended { self.old.validator.failed ≡ true → (is_ok result ≡ false)
+        ensures ended { self.old.validator.failed ≡ true → (result ≡ failure_at offset)
             × (typed_state self.new.validator ≡ typed_state self.old.validator) }
         ensures kept { Kept self.old.validator.stacks self.new.validator.stacks }
         ensures same { (self.new.resources ≡ self.old.resources)
@@ -342,7 +349,7 @@ impl<T: WasmModuleResources, A: Allocator> FuncValidator<T, A> {
         ensures took { self.old.validator.failed ≡ false → StepsAt result offset
             (T.context self.old.resources) (operator_of op.now)
             self.old.validator.stacks self.new.validator.stacks }
-        ensures ended { self.old.validator.failed ≡ true → (is_ok result ≡ false)
+        ensures ended { self.old.validator.failed ≡ true → (result ≡ failure_at offset)
             × (typed_state self.new.validator ≡ typed_state self.old.validator) }
         ensures kept { Kept self.old.validator.stacks self.new.validator.stacks }
         ensures same { (self.new.resources ≡ self.old.resources)

@@ -36,6 +36,6 @@ pub mod operator_validator {
     pub use wasm_operator_validator::{
         Frame, FrameStack, ModuleArity, NotTaken, Operand, OperatorError, OperatorFault,
         OperatorValidator, OperatorValidatorAllocations, OperatorVisitor, TypeWord, Word,
-        operator_arity,
+        is_written_operator, is_written_type, operator_arity,
     };
 }

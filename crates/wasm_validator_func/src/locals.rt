@@ -7,7 +7,8 @@ ghost use Rattle.wasm_validator_resources.specs.Answers.{IsWrittenVal};
 ghost use Rattle.wasm_operator_validator.specs.Typed.{typed_state, locals_in};
 ghost use Rattle.wasm_operator_validator.specs.Checked.{StandsIn};
 ghost use Rattle.wasm_operator_steps.specs.FunctionBodies.{declaration_at};
-ghost use Rattle.wasm_validator_func.specs.Validated.{declaration_of, declared_in, counted_in, listed_in, Goes, DeclaredAt, Declares};
+ghost use Rattle.wasm_validator_func.specs.Validated.{declaration_of, declared_in, counted_in, listed_in, Goes, DeclaredAt, KeepsLocals, Declares};
+ghost use Rattle.wasm_operator_validator.specs.Ended.{failure_at};
 
 use std::alloc::Allocator;
 use wasm_operator_validator::OperatorValidator;
@@ -52,7 +53,8 @@ pub(crate) fn define<A: Allocator, T: WasmModuleResources>(
     ensures declared { validator.old.failed ≡ false → DeclaredAt offset result
         (declared_in validator.old (T.context resources.now) (declaration_of count ty))
         (locals_in validator.new) }
-    ensures ended { validator.old.failed ≡ true → is_ok result ≡ false }
+    ensures kept { KeepsLocals result (locals_in validator.old) (locals_in validator.new) }
+    ensures ended { validator.old.failed ≡ true → result ≡ failure_at offset }
     ensures state { typed_state validator.new ≡ typed_state validator.old }
     ensures goes { Goes validator.old validator.new }
     ensures failed { validator.new.failed ≡ (validator.old.failed || not (is_ok result)) }

@@ -20,7 +20,7 @@ pub use wasm_validator_states::types::{
     MAX_WASM_SUBTYPING_DEPTH, Matches, RecGroupElements, RecGroupId, SnapshotList, TypeAlloc,
     TypeCanonicalizer, TypeData, TypeIdentifier, TypeInfo, TypeList, Types, TypesRef, ValidatorId,
     WasmModuleResources, WithRecGroup, canonicalize_and_intern_rec_group, check_composite_type,
-    check_descriptors, check_subtype, func_signature_matches, intern_rec_group_of,
+    check_descriptors, check_subtype, func_signature_matches, intern_rec_group_of, types_are_valid,
 };
 pub use wasm_validator_states::{
     MaybeOwned, one_id_for_one_type, own_id_for_each_type, payloads_decide,

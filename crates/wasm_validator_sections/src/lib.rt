@@ -52,7 +52,7 @@ pub mod operator_validator {
     pub use wasm_validator_func::operator_validator::{
         Frame, FrameStack, ModuleArity, NotTaken, Operand, OperatorError, OperatorFault,
         OperatorValidator, OperatorValidatorAllocations, OperatorVisitor, TypeWord, Word,
-        operator_arity,
+        is_written_operator, is_written_type, operator_arity,
     };
 }
 

@@ -94,7 +94,7 @@ pub mod types {
     };
     pub use wasm_validator_canonical::{
         InternRecGroup, TypeCanonicalizer, canonicalize_and_intern_rec_group, intern_rec_group_of,
-        needs_type_canonicalization, types_are_apart,
+        needs_type_canonicalization, types_are_apart, types_are_valid,
     };
     pub use wasm_validator_matches::{
         Matches, TypeData, TypeIdentifier, TypeInfo, WithRecGroup, func_signature_matches,

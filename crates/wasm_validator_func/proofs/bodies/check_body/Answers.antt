@@ -63,4 +63,4 @@ returns-clause-took g c =
     let some : (length more == 0) ≡ false = cc in
     subst (λ b. Validates (Err c.refused.result) (body_in v C b) (locals_in t) (typed_state t)) same
     (goes_past (locals_in w) (body_in v C bytes) (instructions_from (world C) (within w C) (typed_state w) middle) c.original_position.result c.refused.result (locals_in t) (typed_state u) (typed_state t) more
-    c.refused.ensures (some_locals C v bytes w middle c.in-Ok.ensures.declared c.in-Ok.ensures.goes c.in-Ok.ensures.state) c.in-Ok-read_instructions.ensures.took some)
+    c.refused.ensures.place (some_locals C v bytes w middle c.in-Ok.ensures.declared c.in-Ok.ensures.goes c.in-Ok.ensures.state) c.in-Ok-read_instructions.ensures.took some)

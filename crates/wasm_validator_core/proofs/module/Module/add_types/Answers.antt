@@ -4,6 +4,7 @@ use Rattle.std.proofs.lemmas.List.{length-map}
 use Rattle.wasm_readers_types.specs.SeenTypes.{sub_of, rec_of}
 use Rattle.wasm_validator_checks.specs.WasmValidatorTypeList.DefTypes.{types_of_list}
 use Rattle.wasm_validator_checks.specs.WasmValidatorTypes.Spaces.{Spaces}
+use Rattle.wasm_validator_checks.proofs.WasmValidatorCanonical.Longer.{begins}
 use Rattle.wasm_validator_core.specs.declared.limits.TheConstants.{MAX_TYPES}
 use Rattle.wasm_validator_core.specs.Errors.{IsAt, IfContent}
 use Rattle.wasm_validator_core.specs.Answers.{TypesSoFar, AddsWhere, HasValidTypes}
@@ -42,3 +43,6 @@ returns-in-Err-intern_rec_group_of-clause-told g c =
     let few = (λ i. leb (length s.types + length-map c.args.group.types sub_of i) MAX_TYPES) ∙ (λ i. leb (length s.types + length (sym c.types-more.ensures i)) MAX_TYPES) ∙ (λ i. leb (length ((sym c.self.view_is i).types) + length c.types-more.result.now) MAX_TYPES) ∙ (λ i. leb (sym c.type_count-count.ensures i + length c.types-more.result.now) MAX_TYPES) ∙ sym c.in-Ok.ensures.fits in
     subst (IfContent (ToldOfAddedGroup c.args.features c.args.offset c.args.list.now s w)) (sym c.from.ensures)
     (lifted_tells g.row.A.Denot c.in-Err-intern_rec_group_of.error (λ r t. within_limit (leb-true (length s.types + length w.types) MAX_TYPES few) t) c.in-Err-intern_rec_group_of.ensures.told)
+
+pub returns-in-Err-clause-kept_groups : goal.returns-in-Err-clause-kept_groups
+returns-in-Err-clause-kept_groups g c = begins c.args.list.now
