@@ -4,6 +4,7 @@
 
 mod arity;
 mod bytes;
+mod heights;
 mod queries;
 mod steps;
 mod validator;
