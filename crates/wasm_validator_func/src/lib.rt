@@ -7,13 +7,16 @@
 mod arity;
 mod bodies;
 mod copies;
+mod frequent;
 mod func_validator;
+mod labels;
 mod laws;
 mod locals;
 mod next_operator;
 mod visitors;
 
 pub use func_validator::{FuncToValidate, FuncValidator, FuncValidatorAllocations, validate_body};
+pub use labels::block_arity;
 pub use laws::bodies_are_declarations_and_instructions;
 pub use next_operator::read_operator;
 
