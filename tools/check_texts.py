@@ -16,7 +16,6 @@ TESTS = ["crates/test_*/src/*.rt", "tests/**/*.rt*"]
 NEVER = {
     "invalid integer": "each integer prints its kind and its fault",
     "invalid operator": "each rule that isn't named there prints its index",
-    "type mismatch: an operand of another type is expected": "what is expected and what was found are printed",
     "control frames remain at end of function body or expression": "reading ends first, where an operator is missing",
 }
 

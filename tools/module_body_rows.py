@@ -1481,7 +1481,7 @@ def scored():
     asked('catch_ref to a block that takes a number behind its tag', 'block @2; try_table _ [catch_ref:0:0]; end; unreachable; end; unreachable',
           types=['func ->', 'func i32 ->', 'func -> i32 i64'], tags=[1], told='')
     asked('array.copy of bytes into halves', 'ref.null 1; i32.const 0; ref.null 0; i32.const 0; i32.const 0; array.copy 1 0',
-          types=['array mut:i8', 'array mut:i16'], told='')
+          types=['array mut:i8', 'array mut:i16'])
     lists = ['func ->', 'func -> i32 i64', 'func i32 i64 -> i32 i64']
     for title, ops in [('br_if', 'block @1; i32.const 0; i64.const 0; block; i32.const 0; br_if 1; end; br 0; end; drop; drop'),
                        ('a call', 'i32.const 0; i64.const 0; block; call 1; end; drop; drop'),
@@ -1492,17 +1492,17 @@ def scored():
     packed = ['array mut:i8', 'array mut:i16', 'array mut:i32']
     for title, to, of in [('bytes into bytes', 0, 0), ('halves into halves', 1, 1), ('halves into bytes', 0, 1), ('bytes into words', 2, 0), ('words into bytes', 0, 2)]:
         asked('array.copy of %s' % title, 'ref.null %d; i32.const 0; ref.null %d; i32.const 0; i32.const 0; array.copy %d %d' % (to, of, to, of),
-              types=packed, told='')
+              types=packed)
     shared = b'\x65\x60\0\0'
     for title, ops in [('any below eq', 'x:d0656e; x:d0656d; ref.eq; drop'), ('any above eq', 'x:d0656d; x:d0656e; ref.eq; drop'),
                        ('eq alone', 'x:d0656d; x:d0656d; ref.eq; drop')]:
-        asked('ref.eq in a shared function, of shared %s' % title, ops, ty=0, types=[shared], features='all', told='')
+        asked('ref.eq in a shared function, of shared %s' % title, ops, ty=0, types=[shared], features='all')
     structure = b'\x65\x5f\0'
     asked('ref.test of any shared for a shared structure', 'x:d0656e; ref.test 1; drop', ty=0, types=['func ->', structure], features='all')
     asked('ref.test of any shared for a structure', 'x:d0656e; ref.test 1; drop', ty=0, types=['func ->', 'struct'], features='all', told='')
     asked('ref.test of any for a shared structure', 'ref.null any; ref.test 1; drop', ty=0, types=['func ->', structure], features='all', told='')
     for title, ops in [('twice', 'ref.null 1; ref.null 1'), ('and of shared eq', 'ref.null 1; x:d0656d'), ('and of eq', 'ref.null 1; ref.null eq')]:
-        asked('ref.eq of a shared structure %s' % title, ops + '; ref.eq; drop', ty=0, types=['func ->', structure], features='all', told=None if 'shared' in title else '')
+        asked('ref.eq of a shared structure %s' % title, ops + '; ref.eq; drop', ty=0, types=['func ->', structure], features='all')
     described = ['func ->', [b'\x4d\2\x5f\0', b'\x4c\1\x5f\0']]
     for title, op in [('struct.new_desc', 'fb2001'), ('struct.new_default_desc', 'fb2101')]:
         case('%s of a structure without fields' % title, W.build(types=described, ntypes=3, funcs=[(0, '', 'x:d06202%s; drop' % op)]), 'all')

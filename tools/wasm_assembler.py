@@ -47,8 +47,8 @@ def named(text):
 
 # ------------------------------------------------------------------------------------------------- types
 NUMBERS = {"i32": 0x7F, "i64": 0x7E, "f32": 0x7D, "f64": 0x7C, "v128": 0x7B, "i8": 0x78, "i16": 0x77}
-HEAPS = {"noexn": 0x74, "nofunc": 0x73, "noextern": 0x72, "none": 0x71, "func": 0x70, "extern": 0x6F, "any": 0x6E, "eq": 0x6D, "i31": 0x6C,
-         "struct": 0x6B, "array": 0x6A, "exn": 0x69}
+HEAPS = {"nocont": 0x75, "noexn": 0x74, "nofunc": 0x73, "noextern": 0x72, "none": 0x71, "func": 0x70, "extern": 0x6F, "any": 0x6E, "eq": 0x6D,
+         "i31": 0x6C, "struct": 0x6B, "array": 0x6A, "exn": 0x69, "cont": 0x68}
 SHORT = {"funcref": "func", "externref": "extern", "anyref": "any", "eqref": "eq", "i31ref": "i31", "structref": "struct", "arrayref": "array",
          "exnref": "exn", "nullref": "none", "nullfuncref": "nofunc", "nullexternref": "noextern", "nullexnref": "noexn"}
 

@@ -18,7 +18,7 @@ pub enum OperatorRule {
     Reference,
     /// A reference below a given abstract heap type is expected.
     ReferenceBelow,
-    /// References that may be compared are expected.
+    /// Two references to compare are expected of which both are shared or neither is.
     Comparable,
     /// `select` without a type chooses one of two numbers or vectors of one type.
     Selected,
@@ -75,7 +75,7 @@ pub enum OperatorRule {
     NoDefault,
     /// Elements that are references are taken from data.
     NotNumeric,
-    /// The references of an element segment aren't those that are wanted.
+    /// The elements of an element segment or of an array aren't those that are wanted.
     ElementTypes,
     /// A table that the module doesn't have.
     UnknownTable,
@@ -234,9 +234,9 @@ impl OperatorRule {
             OperatorRule::Operand => "type mismatch: an operand of another type is expected",
             OperatorRule::AnyOperand => "type mismatch: expected a type but nothing on stack",
             OperatorRule::Reference => "type mismatch: expected a reference type",
-            OperatorRule::ReferenceBelow =>
-                "type mismatch: expected a reference of another hierarchy",
-            OperatorRule::Comparable => "type mismatch: expected subtypes of eqref",
+            OperatorRule::ReferenceBelow => "type mismatch: expected a reference of another type",
+            OperatorRule::Comparable =>
+                "type mismatch: expected `ref.eq` types to match `shared`-ness",
             OperatorRule::Selected =>
                 "type mismatch: select only takes two numbers or vectors of one type",
             OperatorRule::OperandsLeft =>
@@ -276,7 +276,7 @@ impl OperatorRule {
             OperatorRule::NoDefault => "type mismatch: field or element type is not defaultable",
             OperatorRule::NotNumeric =>
                 "type mismatch: arrays from data have numeric or vector elements",
-            OperatorRule::ElementTypes => "type mismatch: element segment has another type",
+            OperatorRule::ElementTypes => "type mismatch: elements of another type are expected",
             OperatorRule::TableTypes => "type mismatch: table has another element type",
             OperatorRule::Alignment => "alignment must not be larger than natural",
             OperatorRule::Offset => "offset out of range: must be <= 2**32",
