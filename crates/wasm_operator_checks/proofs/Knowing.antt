@@ -1,12 +1,12 @@
 -- Operands that are known to be of given types.
-use Rattle.std.proofs.Common.{◌≡◌, ℕ, ◌+◌, ◌-◌, ◌≤◌, List, ◌++◌, length, take, drop, map, sym, ◌∙◌, ap, arith}
+use Rattle.std.proofs.Common.{◌≡◌, ℕ, ◌+◌, ◌-◌, ◌≤◌, List, [], ◌∷◌, ◌++◌, length, refl, take, drop, map, sym, ◌∙◌, ap, arith}
 use Rattle.std.specs.Prelude.{reverse}
 use Rattle.std.proofs.lemmas.List.{drop-drop, drop-map, length-drop, length-reverse, reverse-reverse, take-append-drop, take-map}
 use Rattle.wasm_validator_resources.specs.WasmSpec.Syntax.{Val}
 use Rattle.wasm_validator_resources.specs.WasmReadersTypes.WasmReadersValues.SeenValues.{val_of}
 use Rattle.wasm_validator_resources.specs.WasmReadersTypes.WasmReadersValues.declared.indices.UnpackedIndex.{UnpackedIndex}
 use Rattle.wasm_validator_resources.specs.WasmReadersTypes.WasmReadersValues.declared.values.ValType.{ValType}
-use Rattle.wasm_operator_stacks.specs.WasmOperatorSteps.Machine.{Operand, State, known, push_vals, pushed_onto}
+use Rattle.wasm_operator_stacks.specs.WasmOperatorSteps.Machine.{State, known, push_vals, pushed_onto}
 use Rattle.wasm_operator_stacks.specs.Seen.{below}
 use Rattle.wasm_operator_stacks.specs.SeenOperands.{operand_of}
 use Rattle.wasm_operator_stacks.specs.declared.word.Word.{Word}
@@ -35,6 +35,25 @@ counted ops ws k n m q e h =
     ap length e ∙ length-reverse (take m (drop k ops)) ∙ ap (λ j. length (take j (drop k ops))) q ∙ length_taken n (drop k ops) d
 
 pub ruleset knows = (stand, counted)
+
+none_dropped : {X : Type 0} (xs : List X) → drop 0 xs ≡ xs
+none_dropped [] = refl
+none_dropped (x ∷ xs) = refl
+
+-- those with them that stood above the top
+pub lifted_known : (ops old ws : List Word) (vs : List ValType) (k t n m : ℕ) → k ≡ n - t → t ≤ n → m ≡ n → drop k ops ≡ old → ws ≡ reverse (take m (drop 0 ops)) → map operand_of ws ≡ map known (map val_of vs)
+    → map operand_of ops ≡ pushed_onto (map val_of vs) (drop t (map operand_of old))
+lifted_known ops old ws vs k t n m h l q d e f =
+    let p : k + t ≡ 0 + m = omega arith in
+    let c : drop t (map operand_of old) ≡ drop (0 + m) (map operand_of ops) = ap (λ zs. drop t (map operand_of zs)) (sym d) ∙ ap (drop t) (sym (drop-map operand_of k ops)) ∙ drop-drop t k (map operand_of ops) ∙ ap (λ j. drop j (map operand_of ops)) p in
+    sym (ap (pushed_onto (map val_of vs)) c ∙ pushed_again ops ws (map val_of vs) 0 m e f ∙ none_dropped (map operand_of ops))
+
+pub lowered : (ops old new : List Word) (k c : ℕ) → c ≡ length old → length ops ≡ k + length old → drop k ops ≡ old → new ≡ drop (length ops - c) ops → new ≡ old
+lowered ops old new k c h l d e =
+    let q : length ops - c ≡ k = omega arith in
+    e ∙ ap (λ j. drop j ops) q ∙ d
+
+pub ruleset lifts = (lifted_known, lowered, counted)
 
 -- and so are exchanged for themselves
 pub stays : (s new : State UnpackedIndex) (vs : List (Val UnpackedIndex)) (k n t : ℕ) → n ≤ t → k ≡ t - n → push_vals vs (below (k + n) s) ≡ below k s → new ≡ below k s → new ≡ push_vals vs (below t s)

@@ -31,7 +31,8 @@ pub fn have_defaults(fields: &[FieldType]) -> bool
 }
 
 /// Whether operands of all fields, the last one on top, are below so many that are taken already,
-/// and how many are taken with them.
+/// and how many are taken with them. It looks at no more than are there: where code isn't reached
+/// and none is left, any more can be taken.
 #[tactic(auto, using(crate::proofs::Filling::fills))]
 fn check_fields<A: Allocator, T: WasmModuleResources>(
     stacks: &Stacks<A>,
@@ -46,12 +47,16 @@ fn check_fields<A: Allocator, T: WasmModuleResources>(
     let count = fields.len();
     let mut taken = taken;
     'filling: for i in 0..count {
-        taken = check_type(
+        let next = check_type(
             stacks,
             resources,
             taken,
             TypeWord::new(unpack(fields[count - 1 - i].element_type)),
         )?;
+        if next == taken {
+            return Ok(taken);
+        }
+        taken = next;
     }
     Ok(taken)
 }
