@@ -3,6 +3,7 @@ use Rattle.std.proofs.Common.{◌≡◌, ◌<◌, refl, sym, ap, ◌∙◌, ℕ,
 use Rattle.wasm_spec_rules.specs.Contexts.{Context}
 use Rattle.wasm_spec_rules.specs.Attempts.{◌>>=◌}
 use Rattle.wasm_readers_types.specs.WasmReadersValues.declared.indices.UnpackedIndex.{UnpackedIndex}
+use Rattle.wasm_operators.specs.Instructions.{Instruction}
 use Rattle.wasm_operators.specs.SeenLists.{GivesFront}
 use Rattle.wasm_operators.specs.declared.operators.Operator.{Operator}
 use Rattle.wasm_validator_resources.specs.Answers.{world}
@@ -74,14 +75,17 @@ module _ {A : Type 0} (C : Context UnpackedIndex) (v : OperatorValidator A) (at 
   pub is_done : {X : Type 0} (f : X → Branch) (all : Option Built) (xs after : List X) (T : Built) → all ≡ planned_in C v at (map f xs) T → GivesFront xs None after → all ≡ Some T
   is_done f all xs after T e h = e ∙ ap (λ ys. planned_in C v at (map f ys) T) (none_left xs after h) ∙ planned_none T
 
-  -- an operator: its branches, and what it does to the blocks
-  pub noted_is : (behind : ℕ) (op : Operator) (T U V : Built) → planned_in C v at (branches (instruction_of op)) T ≡ Some U → nested_in (nesting (instruction_of op)) behind U ≡ Some V → noted_in C v (placed at behind op) T ≡ Some V
-  noted_is behind op T U V e f =
-      let bs = branches (instruction_of op) in
+  -- an instruction: its branches, and what it does to the blocks
+  pub noted_by : (behind : ℕ) (i : Instruction ℕ) (T U V : Built) → planned_in C v at (branches i) T ≡ Some U → nested_in (nesting i) behind U ≡ Some V → noted_in C v (record { op = i; at = at; behind = behind }) T ≡ Some V
+  noted_by behind i T U V e f =
+      let bs = branches i in
       let p = bind-gives (planned_each (world C) (within v C) (typed_state v) T.nest at bs) _ U e in
       let W : Built = record { entries = T.entries ++ p.0; nest = T.nest } in
-      let g : nested_in (nesting (instruction_of op)) behind W ≡ Some V = ap (λ (X : Built). nested_in (nesting (instruction_of op)) behind X) (the_same W U p.2) ∙ f in
+      let g : nested_in (nesting i) behind W ≡ Some V = ap (λ (X : Built). nested_in (nesting i) behind X) (the_same W U p.2) ∙ f in
       bind-at (planned_each (world C) (within v C) (typed_state v) T.nest at bs) _ p.0 p.1 ∙ g
+
+  pub noted_is : (behind : ℕ) (op : Operator) (T U V : Built) → planned_in C v at (branches (instruction_of op)) T ≡ Some U → nested_in (nesting (instruction_of op)) behind U ≡ Some V → noted_in C v (placed at behind op) T ≡ Some V
+  noted_is behind op T U V e f = noted_by behind (instruction_of op) T U V e f
 
 pub ruleset loops = (fewer, goes_on, is_done)
 

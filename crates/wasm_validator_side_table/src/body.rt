@@ -13,6 +13,7 @@ ghost use Rattle.wasm_validator_side_table.specs.Shown.{shown};
 ghost use Rattle.wasm_validator_side_table.specs.Tables.{Advances, Reaches, IsTableOf};
 
 use crate::error::{SideTableError, of_validator};
+use crate::fast::read_quiet;
 use crate::table::SideTable;
 use std::alloc::Allocator;
 use wasm_parser::FunctionBody;
@@ -96,6 +97,42 @@ impl<A: Allocator> SideTable<A> {
         }
     }
 
+    /// Notes the next operator, and lets the validator take its step: fast, where it is a frequent one
+    /// that branches nowhere and leaves the blocks as they are.
+    #[inline(always)]
+    fn read_next<'a, T: WasmModuleResources, B: Allocator>(
+        &mut self,
+        validator: &mut FuncValidator<T, B>,
+        reader: &mut BinaryReader<'a>,
+    ) -> Result<(), SideTableError>
+        requires { validator.old.validator.failed ≡ false }
+        ensures advances { OnOk result (Advances (world (T.context validator.old.resources))
+            (within validator.old.validator (T.context validator.old.resources))
+            (typed_state validator.old.validator) (shown self.old) (place_of_next reader.old)
+            (rest reader.old) (typed_state validator.new.validator) (shown self.new)
+            (place_of_next reader.new) (rest reader.new)) }
+        ensures raised { OnOk result (self.new.operands ≡ max self.old.operands
+            (length (typed_state validator.new.validator).operands)) }
+        ensures going { OnOk result (validator.new.validator.failed ≡ false) }
+        ensures kept { Kept validator.old.validator.stacks validator.new.validator.stacks }
+        ensures resources { validator.new.resources ≡ validator.old.resources }
+        ensures input { SameInput reader.old reader.new }
+        ensures further { OnOk result (position_in reader.old < position_in reader.new) }
+    {
+        if read_quiet(validator, reader) {
+            return self.raise(validator);
+        }
+        // The reader itself is not lent, so that it can be kept in registers.
+        let mut behind = *reader;
+        match self.read_one(validator, &mut behind) {
+            Ok(()) => {
+                reader.go_on_from(&behind);
+                Ok(())
+            }
+            Err(error) => Err(error),
+        }
+    }
+
     /// Notes and validates operators up to the end of the body.
     fn read_all<'a, T: WasmModuleResources, B: Allocator>(
         &mut self,
@@ -113,12 +150,14 @@ impl<A: Allocator> SideTable<A> {
         ensures kept { Kept validator.old.validator.stacks validator.new.validator.stacks }
         ensures input { SameInput reader.old reader.new }
     {
-        'operators: while validator.control_stack_height() > 0 {
-            match self.read_one(validator, reader) {
+        let mut ahead = *reader;
+        'operators: while !validator.is_finished() {
+            match self.read_next(validator, &mut ahead) {
                 Ok(()) => {}
                 Err(error) => return Err(error),
             }
         }
+        reader.go_on_from(&ahead);
         Ok(())
     }
 }

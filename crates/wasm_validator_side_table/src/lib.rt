@@ -8,6 +8,7 @@ mod body;
 mod branches;
 mod counts;
 mod error;
+mod fast;
 mod notes;
 mod table;
 

@@ -272,7 +272,8 @@ impl<A: Allocator> SideTable<A> {
     }
 
     /// Notes how many operands there are, if there were never more.
-    fn raise<T: WasmModuleResources, B: Allocator>(
+    #[inline(always)]
+    pub(crate) fn raise<T: WasmModuleResources, B: Allocator>(
         &mut self,
         validator: &FuncValidator<T, B>,
     ) -> Result<(), SideTableError>

@@ -30,12 +30,12 @@ operators-preserved g c =
     let D = g.T.WasmModuleResources.context c.operators.validator.resources in
     let v = c.args.validator.now.validator in
     let w = c.operators.validator.validator in
-    let u = c.read_one.new.validator.validator in
+    let u = c.read_next.new.validator.validator in
     let s = shown c.args.self.now in
     let before = c.operators.self in
-    let after = c.read_one.new.self in
-    let old = c.operators.reader in
-    let new = c.read_one.new.reader in
+    let after = c.read_next.new.self in
+    let old = c.operators.ahead in
+    let new = c.read_next.new.reader in
     let same : D ≡ C = ap (λ r. g.T.WasmModuleResources.context r) c.operators.invariant.resources in
     let first : Advances (world C) (within w C) (typed_state w) (shown before) (place_of_next old) (rest old) (typed_state u) (shown after) (place_of_next new) (rest new) =
     subst (λ (E : Context UnpackedIndex). Advances (world E) (within w E) (typed_state w) (shown before) (place_of_next old) (rest old) (typed_state u) (shown after) (place_of_next new) (rest new)) same c.in-Ok.ensures.advances in

@@ -11,13 +11,13 @@ use Rattle.wasm_validator_side_table.proofs.table.SideTable.read_all.Given as go
 abbrev pub invariant-operators : goal.invariant-operators
 invariant-operators g l = record {
   reaches : Reaches (world (g.T.WasmModuleResources.context l.initial.validator.resources)) (within l.initial.validator.validator (g.T.WasmModuleResources.context l.initial.validator.resources))
-      (typed_state l.initial.validator.validator) (shown l.initial.self) (place_of_next l.initial.reader) (rest l.initial.reader)
-      (typed_state l.validator.validator) (shown l.self) l.self.operands (place_of_next l.reader) (rest l.reader);
+      (typed_state l.initial.validator.validator) (shown l.initial.self) (place_of_next l.initial.ahead) (rest l.initial.ahead)
+      (typed_state l.validator.validator) (shown l.self) l.self.operands (place_of_next l.ahead) (rest l.ahead);
   kept : Kept l.initial.validator.validator.stacks l.validator.validator.stacks;
   going : l.validator.validator.failed ≡ false;
   resources : l.validator.resources ≡ l.initial.validator.resources;
-  same : SameInput l.initial.reader l.reader;
+  same : SameInput l.initial.ahead l.ahead;
 }
 
 abbrev pub decreases-operators : goal.decreases-operators
-decreases-operators g l = length (rest l.reader)
+decreases-operators g l = length (rest l.ahead)

@@ -1,0 +1,23 @@
+-- What contracts see of operators that are noted as they stand in bytes.
+use Rattle.std.specs.Prelude.{◌≡◌, ℕ, List, [], ◌∷◌, Some}
+use Rattle.wasm_spec_rules.specs.Contexts.{Context}
+use Rattle.wasm_readers.specs.WasmReadersBytes.Reader.{place_of_next, rest}
+use Rattle.wasm_readers.specs.WasmReadersBytes.declared.binary_reader.BinaryReader.{BinaryReader}
+use Rattle.wasm_readers_types.specs.WasmReadersValues.declared.indices.UnpackedIndex.{UnpackedIndex}
+use Rattle.wasm_operators.specs.Instructions.{Instruction, instruction_at}
+use Rattle.wasm_validator_resources.specs.Answers.{world}
+use Rattle.wasm_operator_validator.specs.Typed.{typed_state}
+use Rattle.wasm_operator_validator.specs.Checked.{within}
+use Rattle.wasm_operator_validator.specs.declared.validator.OperatorValidator.{OperatorValidator}
+use Rattle.wasm_spec_side_tables.specs.SideTables.{branches, stays, nesting}
+use Rattle.wasm_spec_side_tables.specs.Building.{Built}
+use Rattle.wasm_validator_side_table.specs.Tables.{Advances}
+
+-- an instruction with this first byte branches nowhere, and leaves the blocks as they are
+pub record IsQuiet (b : ℕ) : Type 0 where
+  pub at : (bytes : List ℕ) (i : Instruction ℕ) (more : List ℕ) → instruction_at (λ n. n) (b ∷ bytes) ≡ Some (i, more) → (branches i ≡ []) × (nesting i ≡ stays)
+
+module _ {A : Type 0} (C : Context UnpackedIndex) (v w : OperatorValidator A) (r q : BinaryReader) where
+  -- one instruction leads on, and leaves each table as it is
+  pub record AdvancesQuietly : Type 0 where
+    pub advances : (T : Built) → Advances (world C) (within v C) (typed_state v) T (place_of_next r) (rest r) (typed_state w) T (place_of_next q) (rest q)
