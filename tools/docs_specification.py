@@ -31,7 +31,7 @@ CHAPTERS = [
         "Types and matching",
         "Which types are valid with which features, when two recursive types are equal, and which types match.",
         "wasm_spec/Features wasm_readers_features/On wasm_spec_rules/FeatureFlags wasm_spec/References wasm_spec/Trees wasm_spec/TypeLaws wasm_spec/Closing "
-        "wasm_spec/Declared wasm_spec/ValueTypes wasm_spec/CrateLimits wasm_spec/Defaults wasm_spec/Matching wasm_spec/GroupRules wasm_spec/LinkMatching "
+        "wasm_spec/Declared wasm_spec/ValueTypes wasm_spec/Limits wasm_spec/CrateLimits wasm_spec/Defaults wasm_spec/Matching wasm_spec/GroupRules wasm_spec/LinkMatching "
         "wasm_spec/MatchingTests "
         "wasm_spec_rules/Worlds",
     ),

@@ -6,6 +6,7 @@ use Rattle.wasm_readers_errors.specs.WasmReadersFeatures.declared.features.WasmF
 use Rattle.wasm_spec_rules.specs.FeatureFlags.{features_of}
 use Rattle.wasm_spec_rules.specs.WasmSpec.Features.{canonical}
 use Rattle.wasm_spec_rules.specs.WasmSpec.Trees.{DefType}
+use Rattle.wasm_spec_rules.specs.Limits.{most_types}
 use Rattle.wasm_validator_handles.specs.WasmValidator.WasmSpecValidity.Modules.{IsValidModule, IsValidUpToBodies}
 use Rattle.wasm_validator_handles.specs.WasmValidator.WasmValidatorCanonical.Counted.{has_type, with_type, with_types}
 use Rattle.wasm_validator_handles.specs.WasmValidator.WasmValidatorCore.declared.error.Error.TheVariants.{Refused, DuplicateExport, InFunction, OutOfMemory}
@@ -29,7 +30,7 @@ at_most true ds = let h = each_at_most [] ds in omega (arith, h)
 at_most false ds = omega arith
 
 -- no module has more types than a list may hold
-few_alone : (features : WasmFeatures) (ds : List DefType) → length ds ≤ 1000000 → HasIdsWith (features_of features) [] ds
+few_alone : (features : WasmFeatures) (ds : List DefType) → length ds ≤ most_types → HasIdsWith (features_of features) [] ds
 few_alone features ds few = let all = at_most (canonical (features_of features)) ds in omega (arith, all, few)
 
 alone : (features : WasmFeatures) (id : ℕ) (bytes : List ℕ) → RefusesModule bytes (fresh id features) → IsValidModule (features_of features) bytes → ⊥

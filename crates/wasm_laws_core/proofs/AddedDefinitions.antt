@@ -14,7 +14,7 @@ use Rattle.wasm_spec.proofs.SyntaxMaps.{map_table-map}
 use Rattle.wasm_spec_rules.specs.Parts.{Parts, Expression}
 use Rattle.wasm_spec_rules.specs.IndexSpaces.{index_spaces, imported, functions_in, tables_in, memories_in, tags_in, IsFunctionType, table_type}
 use Rattle.wasm_spec_rules.specs.ItemRules.{IsValidTableEntry, IsValidMemory, IsValidTag}
-use Rattle.wasm_spec_rules.specs.Limits.{most_tables, most_memories}
+use Rattle.wasm_spec_rules.specs.Limits.{most_functions, most_tables, most_memories, most_tags}
 use Rattle.wasm_spec_rules.specs.Sections.{each}
 use Rattle.wasm_readers_types.specs.WasmReadersValues.declared.indices.UnpackedIndex.{UnpackedIndex}
 use Rattle.wasm_validator_core.specs.WasmValidatorCanonical.Groups.{types_at}
@@ -57,19 +57,19 @@ module _ (F : Features) (ids : List ℕ) (types : List DefType) where
       (λ acc. λ i. cond test (cond (leb (length-append before acc i + 1) (most_memories F)) (Some (record (with_memories p acc) { memories = append_assoc before acc (m ∷ []) i })) None) None)
 
   module _ (us : List DefType) (s : Stand (canonical F) us ids types) where
-    function_step : (p : Parts) (x : ℕ) → IsStep (IsFunctionType types) (add_function us) (with_functions p) (length (imported functions_in p.imports)) 1000000 x
+    function_step : (p : Parts) (x : ℕ) → IsStep (IsFunctionType types) (add_function us) (with_functions p) (length (imported functions_in p.imports)) most_functions x
     function_step p x =
         let before = imported functions_in p.imports in
         let test = is_function (types_at us ids) x in
-        step_of (IsFunctionType types) (add_function us) (with_functions p) (length before) 1000000 x test (functions_are_decided (canonical F) us ids types s x)
-        (λ acc. λ i. cond test (cond (leb (length-append before acc i + 1) 1000000) (Some (record (with_functions p acc) { functions = append_assoc before acc (x ∷ []) i })) None) None)
+        step_of (IsFunctionType types) (add_function us) (with_functions p) (length before) most_functions x test (functions_are_decided (canonical F) us ids types s x)
+        (λ acc. λ i. cond test (cond (leb (length-append before acc i + 1) most_functions) (Some (record (with_functions p acc) { functions = append_assoc before acc (x ∷ []) i })) None) None)
 
-    tag_step : (p : Parts) (x : ℕ) → IsStep (IsValidTag F types) (add_tag F us) (with_tags p) (length (imported tags_in p.imports)) 1000000 x
+    tag_step : (p : Parts) (x : ℕ) → IsStep (IsValidTag F types) (add_tag F us) (with_tags p) (length (imported tags_in p.imports)) most_tags x
     tag_step p x =
         let before = imported tags_in p.imports in
         let test = is_valid_tag F (types_at us ids) x in
-        step_of (IsValidTag F types) (add_tag F us) (with_tags p) (length before) 1000000 x test (tags_are_decided F (canonical F) us ids types s x)
-        (λ acc. λ i. cond test (cond (leb (length-append before acc i + 1) 1000000) (Some (record (with_tags p acc) { tags = append_assoc before acc (x ∷ []) i })) None) None)
+        step_of (IsValidTag F types) (add_tag F us) (with_tags p) (length before) most_tags x test (tags_are_decided F (canonical F) us ids types s x)
+        (λ acc. λ i. cond test (cond (leb (length-append before acc i + 1) most_tags) (Some (record (with_tags p acc) { tags = append_assoc before acc (x ∷ []) i })) None) None)
 
     -- a table, by its entry
     abbrev add_entry : Spaces → TableEntry Expression ℕ → Option Spaces
@@ -102,29 +102,29 @@ module _ (F : Features) (ids : List ℕ) (types : List DefType) where
     -- the laws, where no item of the kind is and nothing is exported
     abbrev FunctionsFrom : Parts → List ℕ → List Export → Type 0
     FunctionsFrom p fs es =
-        length (index_spaces types (record p { functions = fs })).functions ≤ 1000000
+        length (index_spaces types (record p { functions = fs })).functions ≤ most_functions
         → (xs : List ℕ) (t : Spaces) → (add_functions us (spaces_of F types ids (record p { functions = fs; exports = es })) xs ≡ Some t)
-        ↔ ((All (IsFunctionType types) xs × (length (index_spaces types (record p { functions = xs })).functions ≤ 1000000)) × (spaces_of F types ids (record p { functions = xs; exports = es }) ≡ t))
+        ↔ ((All (IsFunctionType types) xs × (length (index_spaces types (record p { functions = xs })).functions ≤ most_functions)) × (spaces_of F types ids (record p { functions = xs; exports = es }) ≡ t))
 
     functions_from : (p : Parts) → FunctionsFrom p [] []
     functions_from p few xs t =
         let before = imported functions_in p.imports in
         let P : ℕ → Type 0 = IsFunctionType types in
-        list_law P (add_function us) (with_functions p) (length before) 1000000 xs (length (before ++ xs)) (length-append before xs)
-        (of_each (IsStep P (add_function us) (with_functions p) (length before) 1000000) xs (function_step p)) (front before [] 1000000 few) t
+        list_law P (add_function us) (with_functions p) (length before) most_functions xs (length (before ++ xs)) (length-append before xs)
+        (of_each (IsStep P (add_function us) (with_functions p) (length before) most_functions) xs (function_step p)) (front before [] most_functions few) t
 
     abbrev TagsFrom : Parts → List ℕ → List Export → Type 0
     TagsFrom p ys es =
-        length (index_spaces types (record p { tags = ys })).tags ≤ 1000000
+        length (index_spaces types (record p { tags = ys })).tags ≤ most_tags
         → (xs : List ℕ) (t : Spaces) → (add_tags F us (spaces_of F types ids (record p { tags = ys; exports = es })) xs ≡ Some t)
-        ↔ ((All (IsValidTag F types) xs × (length (index_spaces types (record p { tags = xs })).tags ≤ 1000000)) × (spaces_of F types ids (record p { tags = xs; exports = es }) ≡ t))
+        ↔ ((All (IsValidTag F types) xs × (length (index_spaces types (record p { tags = xs })).tags ≤ most_tags)) × (spaces_of F types ids (record p { tags = xs; exports = es }) ≡ t))
 
     tags_from : (p : Parts) → TagsFrom p [] []
     tags_from p few xs t =
         let before = imported tags_in p.imports in
         let P : ℕ → Type 0 = IsValidTag F types in
-        list_law P (add_tag F us) (with_tags p) (length before) 1000000 xs (length (before ++ xs)) (length-append before xs)
-        (of_each (IsStep P (add_tag F us) (with_tags p) (length before) 1000000) xs (tag_step p)) (front before [] 1000000 few) t
+        list_law P (add_tag F us) (with_tags p) (length before) most_tags xs (length (before ++ xs)) (length-append before xs)
+        (of_each (IsStep P (add_tag F us) (with_tags p) (length before) most_tags) xs (tag_step p)) (front before [] most_tags few) t
 
     abbrev TablesFrom : List (TableEntry Expression ℕ) → Parts → List (TableEntry Expression ℕ) → List Export → Type 0
     TablesFrom ts p ys es =

@@ -16,6 +16,7 @@ use Rattle.wasm_spec_rules.specs.Parts.{Parts}
 use Rattle.wasm_spec_rules.specs.Sections.{each}
 use Rattle.wasm_spec_rules.specs.IndexSpaces.{IndexSpaces, index_spaces}
 use Rattle.wasm_spec_rules.specs.LinkRules.{exported, export_name, extern_size, size_if, import_size, export_size, effective_size, sum, IsMovableExtern, IsValidExport, HasDistinctNames}
+use Rattle.wasm_spec_rules.specs.Limits.{size_limit}
 use Rattle.wasm_spec_rules.proofs.Verdicts.{Verdict, then_verdict, if_verdict, verdict_as, verdict_to, verdict_of, always}
 use Rattle.wasm_validator_core.specs.WasmValidatorChecks.Items.{is_movable}
 use Rattle.wasm_validator_core.specs.WasmValidatorChecks.Laws.{Stand}
@@ -40,11 +41,11 @@ turned true o = refl
 turned false o = refl
 
 -- the effective size with so many more types
-grows : {X : Type 0} (f : ℕ → X) (size more : ℕ) → Verdict (size + more < 1000000) (option_map f (grown size more)) (f (size + more))
+grows : {X : Type 0} (f : ℕ → X) (size more : ℕ) → Verdict (size + more < size_limit) (option_map f (grown size more)) (f (size + more))
 grows f size more =
     let total = size + more in
-    verdict_of _ _ (f total) (if_map f (ltb total 1000000) total)
-    (passed (ltb total 1000000) (f total) (Decides-ltb total 1000000))
+    verdict_of _ _ (f total) (if_map f (ltb total size_limit) total)
+    (passed (ltb total size_limit) (f total) (Decides-ltb total size_limit))
 
 module _ (F : Features) (us : List DefType) (C : IndexSpaces) (s : Spaces) (stand : Stand (canonical F) us s.types C.types) (same : HasSpaces C s) where
   abbrev type_ids : List ℕ
@@ -64,7 +65,7 @@ module _ (F : Features) (us : List DefType) (C : IndexSpaces) (s : Spaces) (stan
 
   -- an item that may be exported, under a name that isn't taken, where there is room for it
   item_verdict : (rows : List (List ℕ × Entity)) (m : ℕ) (name : List ℕ) (k : ℕ) (item : Extern ℕ) → IsTyped C.types item
-      → Verdict (IsMovableExtern F item × (is_exported rows name ≡ false) × (m + extern_size C.types item < 1000000))
+      → Verdict (IsMovableExtern F item × (is_exported rows name ≡ false) × (m + extern_size C.types item < size_limit))
       (export_movable F us (at_state rows m) name (entity_of k item))
       (at_state (rows ++ (name, entity_of k item) ∷ []) (m + extern_size C.types item))
   item_verdict rows m name k item typed =
@@ -92,7 +93,7 @@ module _ (F : Features) (us : List DefType) (C : IndexSpaces) (s : Spaces) (stan
   same_item e item g v = let same : v.item ≡ item = let both : Some v.item ≡ Some item = sym v.exports ∙ g in cc in subst (IsMovableExtern F) same v.movable
 
   export_case : (rows : List (List ℕ × Entity)) (m : ℕ) (e : Export) → IsShortName F e.name → (o : Option (Extern ℕ)) → exported C e ≡ o
-      → Verdict (IsValidExport F C e × (is_exported rows e.name ≡ false) × (m + export_size C e < 1000000))
+      → Verdict (IsValidExport F C e × (is_exported rows e.name ≡ false) × (m + export_size C e < size_limit))
       (option_and_then (export_movable F us (at_state rows m) e.name) (entity_if F C s same e.index o))
       (at_state (rows ++ row e) (m + export_size C e))
   export_case rows m e named None g = inr ((λ h. let v = h.0 in let both : None ≡ Some v.item = sym g ∙ v.exports in absurd cc), refl)
@@ -107,15 +108,15 @@ module _ (F : Features) (us : List DefType) (C : IndexSpaces) (s : Spaces) (stan
       (verdict_as
       _
       _
-      (λ h. (record { item = item; exports = g; movable = h.0; name = named }, h.1, subst (λ n. m + n < 1000000) (sym size) h.2))
-      (λ h. (same_item e item g h.0, h.1, subst (λ n. m + n < 1000000) size h.2))
+      (λ h. (record { item = item; exports = g; movable = h.0; name = named }, h.1, subst (λ n. m + n < size_limit) (sym size) h.2))
+      (λ h. (same_item e item g h.0, h.1, subst (λ n. m + n < size_limit) size h.2))
       (item_verdict rows m e.name e.index item (exported_typed C same.function_types same.tag_types e item g)))
 
   one_export : (rows : List (List ℕ × Entity)) (m : ℕ) (e : Export)
-      → Verdict (IsValidExport F C e × (is_exported rows e.name ≡ false) × (m + export_size C e < 1000000)) (add_export F us (at_state rows m) e) (at_state (rows ++ row e) (m + export_size C e))
+      → Verdict (IsValidExport F C e × (is_exported rows e.name ≡ false) × (m + export_size C e < size_limit)) (add_export F us (at_state rows m) e) (at_state (rows ++ row e) (m + export_size C e))
   one_export rows m e =
       let next = at_state (rows ++ row e) (m + export_size C e) in
-      let exporting : IsShortName F e.name → Verdict (IsValidExport F C e × (is_exported rows e.name ≡ false) × (m + export_size C e < 1000000)) (add_exporting F us (at_state rows m) e) next = λ named.
+      let exporting : IsShortName F e.name → Verdict (IsValidExport F C e × (is_exported rows e.name ≡ false) × (m + export_size C e < size_limit)) (add_exporting F us (at_state rows m) e) next = λ named.
       verdict_of
       _
       _
@@ -132,7 +133,7 @@ module _ (F : Features) (us : List DefType) (C : IndexSpaces) (s : Spaces) (stan
   -- each export is valid, under a name that isn't taken, and there is room for it
   abbrev Fit : List (List ℕ × Entity) → ℕ → List Export → Type 0
   Fit rows m [] = Unit {0}
-  Fit rows m (e ∷ es) = (IsValidExport F C e × (is_exported rows e.name ≡ false) × (m + export_size C e < 1000000)) × Fit (rows ++ row e) (m + export_size C e) es
+  Fit rows m (e ∷ es) = (IsValidExport F C e × (is_exported rows e.name ≡ false) × (m + export_size C e < size_limit)) × Fit (rows ++ row e) (m + export_size C e) es
 
   plus_zero : (n : ℕ) → n ≡ n + 0
   plus_zero n = omega arith
@@ -162,7 +163,7 @@ module _ (F : Features) (us : List DefType) (C : IndexSpaces) (s : Spaces) (stan
   record AllFit (rows : List (List ℕ × Entity)) (m : ℕ) (es : List Export) : Type 0 where
     valid : All (IsValidExport F C) es
     names : AreApart (row_names rows ++ map export_name es)
-    small : m + sum (map (export_size C) es) < 1000000
+    small : m + sum (map (export_size C) es) < size_limit
 
   exports_fit : (es : List Export) (rows : List (List ℕ × Entity)) (m : ℕ) → AllFit rows m es → Fit rows m es
   exports_fit [] rows m a = tt
@@ -175,7 +176,7 @@ module _ (F : Features) (us : List DefType) (C : IndexSpaces) (s : Spaces) (stan
         exports_fit es (rows ++ row e) (m + export_size C e) (record { valid = All-tail (IsValidExport F C) e es a.valid; names = rest; small = omega (arith, small) }),
       )
 
-  fit_exports : (es : List Export) (rows : List (List ℕ × Entity)) (m : ℕ) → AreApart (row_names rows) → m < 1000000 → Fit rows m es → AllFit rows m es
+  fit_exports : (es : List Export) (rows : List (List ℕ × Entity)) (m : ℕ) → AreApart (row_names rows) → m < size_limit → Fit rows m es → AllFit rows m es
   fit_exports [] rows m d l f = record { valid = All-nil (IsValidExport F C); names = subst AreApart (sym (append-nil (row_names rows))) d; small = omega (arith, l) }
   fit_exports (e ∷ es) rows m d l f =
       let named : row_names (rows ++ row e) ≡ row_names rows ++ e.name ∷ [] = names_append rows (row e) ∙ ap (λ ns. row_names rows ++ ns) (name_of_row e f.0.0) in
@@ -223,7 +224,7 @@ module _ (F : Features) (us : List DefType) (ids : List ℕ) (types : List DefTy
   after_is es = λ i. record before { exports = rows_behind F before.imported_functions p.functions ids spaces es i; size = size_apart es i }
 
   whole_verdict : p.exports ≡ [] → HasSpaces spaces before → (es : List Export)
-      → Verdict (All (IsValidExport F spaces) es × HasDistinctNames es × (effective_size spaces p.imports es < 1000000)) (add_exports F us (spaces_of F types ids p) es) (after es)
+      → Verdict (All (IsValidExport F spaces) es × HasDistinctNames es × (effective_size spaces p.imports es < size_limit)) (add_exports F us (spaces_of F types ids p) es) (after es)
   whole_verdict none same es =
       let size = size_apart es in
       verdict_of
@@ -239,8 +240,8 @@ module _ (F : Features) (us : List DefType) (ids : List ℕ) (types : List DefTy
       (verdict_as
       _
       _
-      (λ h. (h.0, h.1.names, subst (λ n. n < 1000000) size h.1.size))
-      (λ h. (h.0, record { names = h.1; size = subst (λ n. n < 1000000) (sym size) h.2 }))
+      (λ h. (h.0, h.1.names, subst (λ n. n < size_limit) size h.1.size))
+      (λ h. (h.0, record { names = h.1; size = subst (λ n. n < size_limit) (sym size) h.2 }))
       (all_verdict F us spaces before stand same es)))
 
 pub exports_are_added : ExportsAreAdded

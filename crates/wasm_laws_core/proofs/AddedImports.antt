@@ -13,7 +13,7 @@ use Rattle.wasm_spec.specs.Trees.{DefType}
 use Rattle.wasm_spec.proofs.SyntaxMaps.{map_table-map, map_global-map}
 use Rattle.wasm_spec_rules.specs.IndexSpaces.{imported, functions_in, tables_in, memories_in, globals_in, tags_in}
 use Rattle.wasm_spec_rules.specs.Contexts.{exact_in}
-use Rattle.wasm_spec_rules.specs.Limits.{most_tables, most_memories}
+use Rattle.wasm_spec_rules.specs.Limits.{most_tables, most_memories, size_limit}
 use Rattle.wasm_spec_rules.specs.LinkRules.{IsValidExtern, IsValidImport, extern_size, import_size, sum}
 use Rattle.wasm_spec_rules.proofs.Verdicts.{Verdict, then_verdict, if_verdict, verdict_as, verdict_to, verdict_of, always}
 use Rattle.wasm_validator_core.specs.WasmValidatorCanonical.Groups.{types_at}
@@ -168,7 +168,7 @@ module _ (F : Features) (us : List DefType) (ids : List ℕ) (types : List DefTy
 
   -- the names and the size of an import in its index space
   named_verdict : (s : Spaces) → s.types ≡ ids → (i : Import ℕ) → IsValidExtern F types i.ty
-      → Verdict (s.size + extern_size types i.ty < 1000000) (with_named us (map_import written i) (machine.entity s (machine.listed s (map_extern written i.ty))) (with_kind s i.ty)) (entered s i)
+      → Verdict (s.size + extern_size types i.ty < size_limit) (with_named us (map_import written i) (machine.entity s (machine.listed s (map_extern written i.ty))) (with_kind s i.ty)) (entered s i)
   named_verdict s same i valid =
       let more : ℕ = extern_size types i.ty in
       let entry : Entity → ℕ → Spaces = λ e size. record (with_kind s i.ty) { imports = with_import s.imports i.module_name i.item_name e; size = size } in
@@ -179,8 +179,8 @@ module _ (F : Features) (us : List DefType) (ids : List ℕ) (types : List DefTy
       (entered s i)
       ((λ j. option_map (entry (is j)) (grown s.size (entity_size us (is j))))
       ∙ ap (λ n. option_map (entry (entity_in ids i.ty)) (grown s.size n)) (entity_size_is (canonical F) us ids types stand i.ty (valid_typed F types i.ty valid))
-      ∙ if_map (entry (entity_in ids i.ty)) (ltb (s.size + more) 1000000) (s.size + more))
-      (passed (ltb (s.size + more) 1000000) (entered s i) (Decides-ltb (s.size + more) 1000000))
+      ∙ if_map (entry (entity_in ids i.ty)) (ltb (s.size + more) size_limit) (s.size + more))
+      (passed (ltb (s.size + more) size_limit) (entered s i) (Decides-ltb (s.size + more) size_limit))
 
   -- an import fits behind others
   abbrev Room : Spaces → Extern ℕ → Type 0
@@ -197,7 +197,7 @@ module _ (F : Features) (us : List DefType) (ids : List ℕ) (types : List DefTy
       subst (λ js. Decides (is_importable F (types_at us js) (map_extern written x)) (IsValidExtern F types x)) (sym same) (externs_are_decided F (canonical F) us ids types stand x) in
       let placed : Verdict (Room s x) (with_imported F s (machine.listed s (map_extern written x))) (with_kind s x) =
       verdict_of _ _ (with_kind s x) (imported_is F s x) (passed (room_in F s x) (with_kind s x) room) in
-      let importing : Verdict (IsValidExtern F types x × (Room s x × (s.size + extern_size types x < 1000000))) (add_importing F us s (map_import written i)) (entered s i) =
+      let importing : Verdict (IsValidExtern F types x × (Room s x × (s.size + extern_size types x < size_limit))) (add_importing F us s (map_import written i)) (entered s i) =
       if_verdict
       (is_importable F (types_at us s.types) (map_extern written x))
       (option_and_then (with_named us (map_import written i) entity) (with_imported F s (machine.listed s (map_extern written x))))
@@ -220,9 +220,9 @@ module _ (F : Features) (us : List DefType) (ids : List ℕ) (types : List DefTy
   -- imports without those behind them
   front_valid : (front back : List (Import ℕ)) → Valid (front ++ back) → Valid front
   front_valid front back v =
-      let size : 1 + (size_of (front ++ back) + 0) < 1000000 = v.size in
+      let size : 1 + (size_of (front ++ back) + 0) < size_limit = v.size in
       let sizes : size_of (front ++ back) ≡ size_of front + size_of back = ap sum (map-append (import_size types) front back) ∙ sum-append (map (import_size types) front) (map (import_size types) back) in
-      let small : 1 + (size_of front + 0) < 1000000 = omega (arith, size, sizes) in
+      let small : 1 + (size_of front + 0) < size_limit = omega (arith, size, sizes) in
       let functions = v.few_functions in
       let tables = v.few_tables in
       let memories = v.few_memories in
@@ -253,9 +253,9 @@ module _ (F : Features) (us : List DefType) (ids : List ℕ) (types : List DefTy
   -- one more valid import fits
   valid_fits : (done : List (Import ℕ)) (i : Import ℕ) → Valid (done ++ i ∷ []) → Fits (state done) i
   valid_fits done i v =
-      let size : 1 + (size_of (done ++ i ∷ []) + 0) < 1000000 = v.size in
+      let size : 1 + (size_of (done ++ i ∷ []) + 0) < size_limit = v.size in
       let sizes = size_more done i in
-      let small : (1 + (size_of done + 0)) + extern_size types i.ty < 1000000 = omega (arith, size, sizes) in
+      let small : (1 + (size_of done + 0)) + extern_size types i.ty < size_limit = omega (arith, size, sizes) in
       let functions = v.few_functions in
       let tables = v.few_tables in
       let memories = v.few_memories in
@@ -287,9 +287,9 @@ module _ (F : Features) (us : List DefType) (ids : List ℕ) (types : List DefTy
   -- and one that fits is valid behind valid ones
   fitting_valid : (done : List (Import ℕ)) (i : Import ℕ) → Valid done → Fits (state done) i → Valid (done ++ i ∷ [])
   fitting_valid done i v h =
-      let size : (1 + (size_of done + 0)) + extern_size types i.ty < 1000000 = h.1.1 in
+      let size : (1 + (size_of done + 0)) + extern_size types i.ty < size_limit = h.1.1 in
       let sizes = size_more done i in
-      let small : 1 + (size_of (done ++ i ∷ []) + 0) < 1000000 = omega (arith, size, sizes) in
+      let small : 1 + (size_of (done ++ i ∷ []) + 0) < size_limit = omega (arith, size, sizes) in
       let room : Room (state done) i.ty = h.1.0 in
       let functions = room.few_functions in
       let tables = room.few_tables in

@@ -12,7 +12,7 @@ use Rattle.wasm_spec_rules.specs.Parts.{Parts}
 use Rattle.wasm_spec_rules.specs.IndexSpaces.{IndexSpaces, index_spaces, imported, functions_in, tables_in, memories_in, globals_in, tags_in, IsFunctionType, table_type, global_type}
 use Rattle.wasm_spec_rules.specs.ItemRules.{IsValidTableEntry, IsValidMemory, IsValidTag}
 use Rattle.wasm_spec_rules.specs.LinkRules.{IsValidExtern, IsValidImport, IsValidExport, HasDistinctNames, effective_size, sum, import_size, export_size}
-use Rattle.wasm_spec_rules.specs.Limits.{most_tables, most_memories}
+use Rattle.wasm_spec_rules.specs.Limits.{most_functions, most_tables, most_memories, most_globals, most_tags, size_limit}
 use Rattle.wasm_spec_rules.proofs.Tests.{then_some}
 use Rattle.wasm_validator_core.specs.WasmValidatorChecks.Laws.{Stand}
 use Rattle.wasm_validator_types.specs.Spaces.{Spaces}
@@ -81,7 +81,7 @@ module _ (F : Features) (us : List DefType) (ids : List ℕ) (types : List DefTy
 
   -- what is asked of each list
   abbrev FunctionsFit : Type 0
-  FunctionsFit = All (IsFunctionType types) parts.functions × (length C.functions ≤ 1000000)
+  FunctionsFit = All (IsFunctionType types) parts.functions × (length C.functions ≤ most_functions)
 
   abbrev TablesFit : Type 0
   TablesFit = All (IsValidTableEntry F types) parts.tables × (length C.tables ≤ most_tables F)
@@ -90,10 +90,10 @@ module _ (F : Features) (us : List DefType) (ids : List ℕ) (types : List DefTy
   MemoriesFit = All (IsValidMemory F) parts.memories × (length C.memories ≤ most_memories F)
 
   abbrev TagsFit : Type 0
-  TagsFit = All (IsValidTag F types) parts.tags × (length C.tags ≤ 1000000)
+  TagsFit = All (IsValidTag F types) parts.tags × (length C.tags ≤ most_tags)
 
   abbrev ExportsFit : Type 0
-  ExportsFit = All (IsValidExport F C) parts.exports × HasDistinctNames parts.exports × (effective_size C parts.imports parts.exports < 1000000)
+  ExportsFit = All (IsValidExport F C) parts.exports × HasDistinctNames parts.exports × (effective_size C parts.imports parts.exports < size_limit)
 
   abbrev ImportsFit : Type 0
   ImportsFit = AreValidImports F types parts.imports
@@ -112,7 +112,7 @@ module _ (F : Features) (us : List DefType) (ids : List ℕ) (types : List DefTy
   tags_law : ExportsAreAdded → ImportsFit → FunctionsFit → StepLaw (from_tags (shown (up_to_memories parts))) (TagsFit × ExportsFit) (shown (listed_parts parts))
   tags_law added i f =
       then_law (add_tags F us (shown (up_to_memories parts)) parts.tags) (shown (up_to_tags parts)) (λ e. add_exports F us e parts.exports) (shown (listed_parts parts))
-      (tags_are_added F us ids types s (up_to_memories parts) refl refl (alone (imported tags_in parts.imports) 1000000 i.few_tags) parts.tags)
+      (tags_are_added F us ids types s (up_to_memories parts) refl refl (alone (imported tags_in parts.imports) most_tags i.few_tags) parts.tags)
       (exports_law added i f)
 
   abbrev from_memories : Spaces → Option Spaces
@@ -142,7 +142,7 @@ module _ (F : Features) (us : List DefType) (ids : List ℕ) (types : List DefTy
   functions_law : ExportsAreAdded → HasNoInitializer parts → ImportsFit → StepLaw (from_functions (shown (only_imports parts.imports))) DefinitionsFit (shown (listed_parts parts))
   functions_law added none i =
       then_law (add_functions us (shown (only_imports parts.imports)) parts.functions) (shown (up_to_functions parts)) from_tables (shown (listed_parts parts))
-      (functions_are_added F us ids types s (only_imports parts.imports) refl refl (alone (imported functions_in parts.imports) 1000000 i.few_functions) parts.functions)
+      (functions_are_added F us ids types s (only_imports parts.imports) refl refl (alone (imported functions_in parts.imports) most_functions i.few_functions) parts.functions)
       (tables_law added none i)
 
   lists_law : ImportsAreAdded → ExportsAreAdded → HasNoInitializer parts → StepLaw (add_lists F us (only_types ids) parts) (ImportsFit × DefinitionsFit) (shown (listed_parts parts))
@@ -167,22 +167,22 @@ module _ (F : Features) (us : List DefType) (ids : List ℕ) (types : List DefTy
         few_functions = d.0.1;
         few_tables = d.1.0.1;
         few_memories = d.1.1.0.1;
-        few_globals = alone (imported globals_in parts.imports) 1000000 i.few_globals;
+        few_globals = alone (imported globals_in parts.imports) most_globals i.few_globals;
         few_tags = d.1.1.1.0.1;
       }
 
-  small_imports : (n m : ℕ) → 1 + (n + m) < 1000000 → 1 + (n + 0) < 1000000
+  small_imports : (n m : ℕ) → 1 + (n + m) < size_limit → 1 + (n + 0) < size_limit
   small_imports n m small = omega (arith, small)
 
   imports_fit : AreValidLists F C parts → ImportsFit
   imports_fit v = record {
     valid = v.imports;
     size = small_imports (sum (map (import_size types) parts.imports)) (sum (map (export_size C) parts.exports)) v.size;
-    few_functions = front (imported functions_in parts.imports) parts.functions 1000000 v.few_functions;
+    few_functions = front (imported functions_in parts.imports) parts.functions most_functions v.few_functions;
     few_tables = front (imported tables_in parts.imports) (map table_type parts.tables) (most_tables F) v.few_tables;
     few_memories = front (imported memories_in parts.imports) parts.memories (most_memories F) v.few_memories;
-    few_globals = front (imported globals_in parts.imports) [] 1000000 v.few_globals;
-    few_tags = front (imported tags_in parts.imports) parts.tags 1000000 v.few_tags;
+    few_globals = front (imported globals_in parts.imports) [] most_globals v.few_globals;
+    few_tags = front (imported tags_in parts.imports) parts.tags most_tags v.few_tags;
   }
 
   pub fit_from : AreValidLists F C parts → ImportsFit × DefinitionsFit

@@ -8,6 +8,7 @@ use Rattle.wasm_spec.specs.Features.{Features, canonical}
 use Rattle.wasm_spec.specs.Trees.{DefType}
 use Rattle.wasm_spec_rules.specs.IndexSpaces.{IndexSpaces, IsFunctionType}
 use Rattle.wasm_spec_rules.specs.LinkRules.{IsValidExport, export_name, export_size, sum}
+use Rattle.wasm_spec_rules.specs.Limits.{size_limit}
 use Rattle.wasm_validator_core.specs.WasmValidatorChecks.Laws.{Stand}
 use Rattle.wasm_validator_types.specs.Entities.{Entity}
 use Rattle.wasm_validator_types.specs.Spaces.{Spaces}
@@ -33,12 +34,12 @@ pub record HasSpaces (C : IndexSpaces) (s : Spaces) : Type 0 where
   pub function_types : All (IsFunctionType C.types) C.functions
   pub tag_types : All (IsFunctionType C.types) C.tags
   pub names : AreApart (map row_name s.exports)
-  pub size : s.size < 1000000
+  pub size : s.size < size_limit
 
 -- with these exports behind those that are there no name comes twice, and the effective size stays below its limit
 pub record FitExports (C : IndexSpaces) (s : Spaces) (es : List Export) : Type 0 where
   pub names : AreApart (map row_name s.exports ++ map export_name es)
-  pub size : s.size + sum (map (export_size C) es) < 1000000
+  pub size : s.size + sum (map (export_size C) es) < size_limit
 
 -- the lists with these exports behind, and in the effective size
 abbrev pub with_exports : Features → IndexSpaces → Spaces → List Export → Spaces

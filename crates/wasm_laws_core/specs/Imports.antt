@@ -7,7 +7,7 @@ use Rattle.wasm_spec.specs.Features.{Features, canonical}
 use Rattle.wasm_spec.specs.Trees.{DefType}
 use Rattle.wasm_spec_rules.specs.Contexts.{exact_in}
 use Rattle.wasm_spec_rules.specs.IndexSpaces.{functions_in, tables_in, memories_in, globals_in, tags_in}
-use Rattle.wasm_spec_rules.specs.Limits.{most_tables, most_memories}
+use Rattle.wasm_spec_rules.specs.Limits.{most_functions, most_tables, most_memories, most_globals, most_tags, size_limit}
 use Rattle.wasm_spec_rules.specs.LinkRules.{IsValidImport, extern_size}
 use Rattle.wasm_validator_core.specs.WasmValidatorChecks.Laws.{Stand}
 use Rattle.wasm_validator_core.specs.WasmValidatorCanonical.Sections.{written}
@@ -17,19 +17,19 @@ use Rattle.wasm_laws_core.specs.Shown.{entity_in, listed_table, listed_global}
 
 -- so many of each kind, with an external type, keep their limits
 pub record HasRoom (F : Features) (functions tables memories globals tags : ℕ) (x : Extern ℕ) : Type 0 where
-  pub few_functions : functions + length (functions_in x) ≤ 1000000
+  pub few_functions : functions + length (functions_in x) ≤ most_functions
   pub few_tables : tables + length (tables_in x) ≤ most_tables F
   pub few_memories : memories + length (memories_in x) ≤ most_memories F
-  pub few_globals : globals + length (globals_in x) ≤ 1000000
-  pub few_tags : tags + length (tags_in x) ≤ 1000000
+  pub few_globals : globals + length (globals_in x) ≤ most_globals
+  pub few_tags : tags + length (tags_in x) ≤ most_tags
 
 -- the lists of a module keep their limits
 pub record KeepsLimits (F : Features) (s : Spaces) : Type 0 where
-  pub few_functions : length s.functions ≤ 1000000
+  pub few_functions : length s.functions ≤ most_functions
   pub few_tables : length s.tables ≤ most_tables F
   pub few_memories : length s.memories ≤ most_memories F
-  pub few_globals : length s.globals ≤ 1000000
-  pub few_tags : length s.tags ≤ 1000000
+  pub few_globals : length s.globals ≤ most_globals
+  pub few_tags : length s.tags ≤ most_tags
 
 -- an external type keeps them with these lists
 abbrev pub RoomIn : Features → Spaces → Extern ℕ → Type 0
@@ -37,7 +37,7 @@ RoomIn F s x = HasRoom F (length s.functions) (length s.tables) (length s.memori
 
 -- an import is valid, and fits behind these lists
 abbrev pub FitsImport : Features → List DefType → Spaces → Import ℕ → Type 0
-FitsImport F types s i = IsValidImport F types i × (RoomIn F s i.ty × (s.size + extern_size types i.ty < 1000000))
+FitsImport F types s i = IsValidImport F types i × (RoomIn F s i.ty × (s.size + extern_size types i.ty < size_limit))
 
 -- an external type at the end of its index space
 abbrev pub with_kind : Spaces → Extern ℕ → Spaces

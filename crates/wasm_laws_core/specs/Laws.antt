@@ -13,7 +13,7 @@ use Rattle.wasm_spec_rules.specs.Parts.{Parts, Expression}
 use Rattle.wasm_spec_rules.specs.IndexSpaces.{index_spaces, imported, functions_in, tables_in, memories_in, globals_in, tags_in, IsFunctionType}
 use Rattle.wasm_spec_rules.specs.ItemRules.{IsValidTableEntry, IsValidMemory, IsValidTag}
 use Rattle.wasm_spec_rules.specs.LinkRules.{IsValidImport, IsValidExport, HasDistinctNames, effective_size, IsValidStart}
-use Rattle.wasm_spec_rules.specs.Limits.{most_tables, most_memories}
+use Rattle.wasm_spec_rules.specs.Limits.{most_functions, most_tables, most_memories, most_globals, most_tags, size_limit}
 use Rattle.wasm_validator_core.specs.WasmValidatorChecks.Laws.{Stand}
 use Rattle.wasm_validator_types.specs.Spaces.{Spaces}
 use Rattle.wasm_validator_core.specs.Items.{is_startable}
@@ -23,12 +23,12 @@ use Rattle.wasm_laws_core.specs.Lists.{only_types, only_imports, has_no_init, ad
 -- Imports keep their rules and limits.
 pub record AreValidImports (F : Features) (types : List DefType) (is : List (Import ℕ)) : Type 0 where
   pub valid : All (IsValidImport F types) is
-  pub size : effective_size (index_spaces types (only_imports is)) is [] < 1000000
-  pub few_functions : length (imported functions_in is) ≤ 1000000
+  pub size : effective_size (index_spaces types (only_imports is)) is [] < size_limit
+  pub few_functions : length (imported functions_in is) ≤ most_functions
   pub few_tables : length (imported tables_in is) ≤ most_tables F
   pub few_memories : length (imported memories_in is) ≤ most_memories F
-  pub few_globals : length (imported globals_in is) ≤ 1000000
-  pub few_tags : length (imported tags_in is) ≤ 1000000
+  pub few_globals : length (imported globals_in is) ≤ most_globals
+  pub few_tags : length (imported tags_in is) ≤ most_tags
 
 abbrev pub ImportsAreAdded : Type 0
 ImportsAreAdded =
@@ -39,9 +39,9 @@ ImportsAreAdded =
 abbrev pub FunctionsAreAdded : Type 0
 FunctionsAreAdded =
     (F : Features) (us : List DefType) (ids : List ℕ) (types : List DefType) → Stand (canonical F) us ids types
-    → (p : Parts) → p.functions ≡ [] → p.exports ≡ [] → length (index_spaces types p).functions ≤ 1000000
+    → (p : Parts) → p.functions ≡ [] → p.exports ≡ [] → length (index_spaces types p).functions ≤ most_functions
     → (xs : List ℕ) (t : Spaces) → (add_functions us (spaces_of F types ids p) xs ≡ Some t)
-    ↔ ((All (IsFunctionType types) xs × (length (index_spaces types (record p { functions = xs })).functions ≤ 1000000)) × (spaces_of F types ids (record p { functions = xs }) ≡ t))
+    ↔ ((All (IsFunctionType types) xs × (length (index_spaces types (record p { functions = xs })).functions ≤ most_functions)) × (spaces_of F types ids (record p { functions = xs }) ≡ t))
 
 abbrev pub TablesAreAdded : Type 0
 TablesAreAdded =
@@ -60,18 +60,18 @@ MemoriesAreAdded =
 abbrev pub TagsAreAdded : Type 0
 TagsAreAdded =
     (F : Features) (us : List DefType) (ids : List ℕ) (types : List DefType) → Stand (canonical F) us ids types
-    → (p : Parts) → p.tags ≡ [] → p.exports ≡ [] → length (index_spaces types p).tags ≤ 1000000
+    → (p : Parts) → p.tags ≡ [] → p.exports ≡ [] → length (index_spaces types p).tags ≤ most_tags
     → (xs : List ℕ) (t : Spaces) → (add_tags F us (spaces_of F types ids p) xs ≡ Some t)
-    ↔ ((All (IsValidTag F types) xs × (length (index_spaces types (record p { tags = xs })).tags ≤ 1000000)) × (spaces_of F types ids (record p { tags = xs }) ≡ t))
+    ↔ ((All (IsValidTag F types) xs × (length (index_spaces types (record p { tags = xs })).tags ≤ most_tags)) × (spaces_of F types ids (record p { tags = xs }) ≡ t))
 
 -- exports, behind a state of which nothing is exported and whose functions and tags are of function types
 abbrev pub ExportsAreAdded : Type 0
 ExportsAreAdded =
     (F : Features) (us : List DefType) (ids : List ℕ) (types : List DefType) → Stand (canonical F) us ids types
     → (p : Parts) → p.exports ≡ [] → All (IsFunctionType types) (index_spaces types p).functions → All (IsFunctionType types) (index_spaces types p).tags
-    → effective_size (index_spaces types p) p.imports [] < 1000000
+    → effective_size (index_spaces types p) p.imports [] < size_limit
     → (es : List Export) (t : Spaces) → (add_exports F us (spaces_of F types ids p) es ≡ Some t)
-    ↔ ((All (IsValidExport F (index_spaces types p)) es × HasDistinctNames es × (effective_size (index_spaces types p) p.imports es < 1000000)) × (spaces_of F types ids (record p { exports = es }) ≡ t))
+    ↔ ((All (IsValidExport F (index_spaces types p)) es × HasDistinctNames es × (effective_size (index_spaces types p) p.imports es < size_limit)) × (spaces_of F types ids (record p { exports = es }) ≡ t))
 
 -- all lists, in the order of their sections
 abbrev pub ValidListsAreAdded : Type 0

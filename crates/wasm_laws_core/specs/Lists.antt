@@ -11,7 +11,7 @@ use Rattle.wasm_spec_rules.specs.Parts.{Parts, Expression}
 use Rattle.wasm_spec_rules.specs.IndexSpaces.{IndexSpaces, IsFunctionType, table_type}
 use Rattle.wasm_spec_rules.specs.ItemRules.{IsValidTableEntry, IsValidMemory, IsValidTag}
 use Rattle.wasm_spec_rules.specs.LinkRules.{IsValidImport, IsValidExport, HasDistinctNames, effective_size}
-use Rattle.wasm_spec_rules.specs.Limits.{most_tables, most_memories}
+use Rattle.wasm_spec_rules.specs.Limits.{most_functions, most_tables, most_memories, most_globals, most_tags, size_limit}
 use Rattle.wasm_spec_rules.specs.Sections.{each}
 use Rattle.wasm_validator_core.specs.WasmValidatorCanonical.Sections.{written}
 use Rattle.wasm_validator_types.specs.Spaces.{Spaces, no_spaces}
@@ -99,9 +99,9 @@ pub record AreValidLists (F : Features) (C : IndexSpaces) (parts : Parts) : Type
   pub tags : All (IsValidTag F C.types) parts.tags
   pub exports : All (IsValidExport F C) parts.exports
   pub export_names : HasDistinctNames parts.exports
-  pub size : effective_size C parts.imports parts.exports < 1000000
-  pub few_functions : length C.functions ≤ 1000000
+  pub size : effective_size C parts.imports parts.exports < size_limit
+  pub few_functions : length C.functions ≤ most_functions
   pub few_tables : length C.tables ≤ most_tables F
   pub few_memories : length C.memories ≤ most_memories F
-  pub few_globals : length C.globals ≤ 1000000
-  pub few_tags : length C.tags ≤ 1000000
+  pub few_globals : length C.globals ≤ most_globals
+  pub few_tags : length C.tags ≤ most_tags

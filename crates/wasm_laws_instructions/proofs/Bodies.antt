@@ -3,6 +3,7 @@ use Rattle.std.proofs.Common.{◌≡◌, refl, ap, subst, ◌∙◌, ℕ, true, 
 use Rattle.wasm_spec.specs.Syntax.{Sub, Comp}
 use Rattle.wasm_spec.specs.Features.{Features}
 use Rattle.wasm_spec.specs.MatchingTests.{World}
+use Rattle.wasm_spec.specs.Limits.{most_locals}
 use Rattle.wasm_operator_steps.specs.WasmSpecRules.Attempts.{◌>>=◌, passes}
 use Rattle.wasm_operator_steps.specs.WasmSpecRules.Contexts.{Context}
 use Rattle.wasm_operator_steps.specs.WasmSpecRules.Signatures.{Signature, signature_of}
@@ -73,7 +74,7 @@ module _ {R : Type 0} (W : World R) (o : IsInOrder W) (F : Features) (C : Contex
         is_shared = h.is_shared;
         listed = h.body.listed;
         declared = h.body.declared;
-        few = subst (λ (ls : List (Local R)). length ls ≤ 50000) h.body.all h.body.few;
+        few = subst (λ (ls : List (Local R)). length ls ≤ most_locals) h.body.all h.body.few;
         written = h.body.written;
         typed = subst (λ (ls : List (Local R)). IsTypedExpression W (body_in F C h.shared ls) h.signature.gives h.body.instructions) h.body.all t;
       }

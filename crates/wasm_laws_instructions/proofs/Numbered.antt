@@ -282,7 +282,7 @@ module _ (F : Features) (types ds : List DefType) (N : DefType → ℕ) (accepte
   unfolding is_lower rank
   rank-grows d x k j e f g =
       let v : IsValidType F declared d = valid k d e in
-      let l : tall x < tall d = taller d x v.rules.at_most_63_ancestors g in
+      let l : tall x < tall d = taller d x v.rules.few_ancestors g in
       count-more (is_lower x) (is_lower d) (λ z h. let m : tall z < tall x = ltb-true (tall z) (tall x) h in lower-is (tall z) (tall d) (omega (arith, l, m))) ds j x f (not_itself (tall x)) (lower-is (tall x) (tall d) l)
 
   climbs : (n a b k : ℕ) (d : DefType) → slice_get ds k ≡ Some d → N d ≡ a → ancestor_at D n a ≡ Some b → n ≤ rank d

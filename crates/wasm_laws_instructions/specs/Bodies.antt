@@ -7,6 +7,7 @@ use Rattle.wasm_spec.specs.Syntax.{Val}
 use Rattle.wasm_spec.specs.Features.{Features}
 use Rattle.wasm_spec.specs.Values.{list_at}
 use Rattle.wasm_spec.specs.MatchingTests.{World}
+use Rattle.wasm_spec.specs.Limits.{most_locals}
 use Rattle.wasm_operator_steps.specs.WasmSpecRules.Attempts.{◌>>=◌}
 use Rattle.wasm_operator_steps.specs.WasmSpecRules.Contexts.{Context}
 use Rattle.wasm_operator_steps.specs.WasmSpecRules.Signatures.{Signature, signature_of}
@@ -35,7 +36,7 @@ module _ {R : Type 0} (W : World R) (F : Features) (C : Context R) where
     pub is_shared : option_map (λ d. d.shared) (declared_at W F C n) ≡ Some shared
     pub listed : list_at declaration_at bytes ≡ Some (declarations, behind)
     pub declared : declared_locals F C.types declarations ≡ Some locals
-    pub few : length (map local_taken signature.takes ++ locals) ≤ 50000
+    pub few : length (map local_taken signature.takes ++ locals) ≤ most_locals
     pub written : Are instructions behind []
     pub typed : IsTypedExpression W (body_in F C shared (map local_taken signature.takes ++ locals)) signature.gives instructions
 

@@ -24,6 +24,7 @@ use Rattle.wasm_spec_rules.specs.ItemRules.{IsAllowedRef, IsValidTableEntry}
 use Rattle.wasm_spec_rules.specs.LinkRules.{IsValidExtern, IsValidImport}
 use Rattle.wasm_spec_rules.specs.SegmentRules.{items_type, items_count, AreValidItems, index_or_first, GoesToTable, IsValidElementMode, IsValidElement}
 use Rattle.wasm_spec_rules.specs.Sections.{each}
+use Rattle.wasm_spec_rules.specs.Limits.{most_items}
 use Rattle.wasm_spec_rules.proofs.Verdicts.{Verdict, verdict_as, verdict_of}
 use Rattle.wasm_spec_validity.specs.WasmOperatorSteps.Meanings.{address}
 use Rattle.wasm_readers_types.specs.WasmReadersValues.declared.indices.UnpackedIndex.{UnpackedIndex}
@@ -154,24 +155,24 @@ module _ (F : Features) (us : List DefType) (ids : List ℕ) (types : List DefTy
   is_item acc r e = is_constant_of F (types_declare us us) (at_elements acc) (reference (map_ref (canonical_index ids) (map_ref written r))) e
 
   items_decided : (acc : List (Element Expression ℕ)) (x : ElementItems Expression ℕ)
-      → Decides (are_items F (types_declare us us) (at_elements acc) (map_items written x)) ((AreValidItems F (index_spaces types parts) x × (items_count x ≤ 10000000)) × AreTyped x)
+      → Decides (are_items F (types_declare us us) (at_elements acc) (map_items written x)) ((AreValidItems F (index_spaces types parts) x × (items_count x ≤ most_items)) × AreTyped x)
   items_decided acc (functions xs) =
       let below : ℕ → Bool = λ x. nat_lt x (length (index_spaces types parts).functions) in
       let IsBelow : ℕ → Type 0 = λ x. x < length (index_spaces types parts).functions in
-      Decides-like (list_all below xs && nat_le (length xs) 10000000) (λ (p : All IsBelow xs × (length xs ≤ 10000000)). (p, tt)) (λ p. p.0)
-      (Decides-and (list_all below xs) (nat_le (length xs) 10000000)
+      Decides-like (list_all below xs && nat_le (length xs) most_items) (λ (p : All IsBelow xs × (length xs ≤ most_items)). (p, tt)) (λ p. p.0)
+      (Decides-and (list_all below xs) (nat_le (length xs) most_items)
       (Decides-by_and below IsBelow (list_all below) (λ x. Decides-ltb x (length (index_spaces types parts).functions)) refl (λ _ _. refl) xs)
-      (few_decided (length xs) 10000000))
+      (few_decided (length xs) most_items))
   items_decided acc (expressions r es) =
       let allowed : Bool = allows_ref F (map_ref written r) && is_ref_in_range (length ids) (map_ref written r) in
       let IsItem : Expression → Type 0 = IsConstantOf (reference (map_ref (number_at n) r)) in
       let constant : Bool = list_all (is_item acc r) es in
-      Decides-like ((allowed && constant) && nat_le (length es) 10000000) (λ (p : (IsAllowedRef F types r × All IsItem es) × (length es ≤ 10000000)). ((p.0.0, p.1), p.0.1)) (λ p. ((p.0.0, p.1), p.0.1))
-      (Decides-and (allowed && constant) (nat_le (length es) 10000000)
+      Decides-like ((allowed && constant) && nat_le (length es) most_items) (λ (p : (IsAllowedRef F types r × All IsItem es) × (length es ≤ most_items)). ((p.0.0, p.1), p.0.1)) (λ p. ((p.0.0, p.1), p.0.1))
+      (Decides-and (allowed && constant) (nat_le (length es) most_items)
       (decides_then allowed constant (ref_decided r)
       (λ (v : IsAllowedRef F types r). Decides-by_and (is_item acc r) IsItem (list_all (is_item acc r))
       (λ e. constant_decided F us ids types w parts constants n (at_elements acc) count (shown acc) (reference r) v.in_range e) refl (λ _ _. refl) es))
-      (few_decided (length es) 10000000))
+      (few_decided (length es) most_items))
 
   -- their type is in range
   items_in_range : (x : ElementItems Expression ℕ) → AreValidItems F (index_spaces types parts) x → IsRefInRange types (items_type x)
@@ -218,7 +219,7 @@ module _ (F : Features) (us : List DefType) (ids : List ℕ) (types : List DefTy
   IsRightElement e = IsValidElement F (index_spaces types parts) e × IsTyped e
 
   abbrev AreRightItems : Element Expression ℕ → Type 0
-  AreRightItems e = (AreValidItems F (index_spaces types parts) e.items × (items_count e.items ≤ 10000000)) × AreTyped e.items
+  AreRightItems e = (AreValidItems F (index_spaces types parts) e.items × (items_count e.items ≤ most_items)) × AreTyped e.items
 
   abbrev IsRightMode : Element Expression ℕ → Type 0
   IsRightMode e = IsValidElementMode F (index_spaces types parts) (items_type e.items) e.mode × IsTypedMode e.mode

@@ -16,6 +16,7 @@ use Rattle.wasm_spec_rules.specs.IndexSpaces.{index_spaces, imported, globals_in
 use Rattle.wasm_spec_rules.specs.ItemRules.{IsValidGlobal}
 use Rattle.wasm_spec_rules.specs.LinkRules.{IsValidExtern, IsValidImport}
 use Rattle.wasm_spec_rules.specs.Sections.{each}
+use Rattle.wasm_spec_rules.specs.Limits.{most_globals}
 use Rattle.wasm_spec_rules.proofs.Verdicts.{Verdict, verdict_as, verdict_of}
 use Rattle.wasm_readers_types.specs.WasmReadersValues.declared.indices.UnpackedIndex.{UnpackedIndex}
 use Rattle.wasm_laws_core.specs.WasmValidatorCanonical.Groups.{types_at}
@@ -123,7 +124,7 @@ module _ (F : Features) (us : List DefType) (ids : List ℕ) (types : List DefTy
       ∙ ap (λ gs. all (before ++ gs)) (sym (map-append global_type acc (g ∷ [])))
 
   abbrev IsRightEntry : List (GlobalEntry Expression ℕ) → GlobalEntry Expression ℕ → Type 0
-  IsRightEntry acc g = IsWithin (IsValidEntry F types) IsTyped (length before) 1000000 acc g
+  IsRightEntry acc g = IsWithin (IsValidEntry F types) IsTyped (length before) most_globals acc g
 
   global_step : (acc : List (GlobalEntry Expression ℕ)) (g : GlobalEntry Expression ℕ) (gs : List (GlobalEntry Expression ℕ)) → IsReached acc (g ∷ gs)
       → Verdict (IsRightEntry acc g) (add_one (at_globals acc) g) (at_globals (acc ++ g ∷ []))
@@ -132,10 +133,10 @@ module _ (F : Features) (us : List DefType) (ids : List ℕ) (types : List DefTy
       let room : ℕ = length before + length acc + 1 in
       verdict_of
       (add_one (at_globals acc) g)
-      (cond (entry_test acc g) (cond (leb room 1000000) (Some next) None) None)
+      (cond (entry_test acc g) (cond (leb room most_globals) (Some next) None) None)
       next
-      (λ i. cond (entry_test acc g) (cond (leb (globals_counted acc i + 1) 1000000) (Some (record (at_globals acc) { globals = one_more acc g i })) None) None)
-      (limited_verdict (entry_test acc g) room 1000000 next (entry_decided acc (g ∷ gs) g known))
+      (λ i. cond (entry_test acc g) (cond (leb (globals_counted acc i + 1) most_globals) (Some (record (at_globals acc) { globals = one_more acc g i })) None) None)
+      (limited_verdict (entry_test acc g) room most_globals next (entry_decided acc (g ∷ gs) g known))
 
   global_kept : (acc : List (GlobalEntry Expression ℕ)) (g : GlobalEntry Expression ℕ) (gs : List (GlobalEntry Expression ℕ)) → IsReached acc (g ∷ gs) → IsRightEntry acc g → IsReached (acc ++ g ∷ []) gs
   global_kept acc g gs known right =
@@ -143,10 +144,10 @@ module _ (F : Features) (us : List DefType) (ids : List ℕ) (types : List DefTy
 
   -- What is asked of all globals.
   abbrev pub GlobalsFit : Type 0
-  GlobalsFit = (All (IsValidEntry F types) parts.globals × AllFrom IsTyped (imported_globals parts) parts.globals) × (length (before ++ map global_type parts.globals) ≤ 1000000)
+  GlobalsFit = (All (IsValidEntry F types) parts.globals × AllFrom IsTyped (imported_globals parts) parts.globals) × (length (before ++ map global_type parts.globals) ≤ most_globals)
 
   abbrev AreAllWithin : Type 0
-  AreAllWithin = (All (IsValidEntry F types) parts.globals × AllFrom IsTyped (length before + length {A = GlobalEntry Expression ℕ} []) parts.globals) × (length before + length {A = GlobalEntry Expression ℕ} [] + length parts.globals ≤ 1000000)
+  AreAllWithin = (All (IsValidEntry F types) parts.globals × AllFrom IsTyped (length before + length {A = GlobalEntry Expression ℕ} []) parts.globals) × (length before + length {A = GlobalEntry Expression ℕ} [] + length parts.globals ≤ most_globals)
 
   none_before : length before + length {A = GlobalEntry Expression ℕ} [] ≡ length before
   none_before = omega arith
@@ -166,7 +167,7 @@ module _ (F : Features) (us : List DefType) (ids : List ℕ) (types : List DefTy
       let counted = all_counted in
       ((a.0.0, subst (λ (k : ℕ). AllFrom IsTyped k parts.globals) (sym none_before) a.0.1), omega (arith, few, counted))
 
-  pub globals_verdict : length before ≤ 1000000 → Verdict GlobalsFit (add_global_entries F us (at_globals []) parts.globals) (at_globals parts.globals)
+  pub globals_verdict : length before ≤ most_globals → Verdict GlobalsFit (add_global_entries F us (at_globals []) parts.globals) (at_globals parts.globals)
   globals_verdict few =
       verdict_of
       (add_global_entries F us (at_globals []) parts.globals)
@@ -176,6 +177,6 @@ module _ (F : Features) (us : List DefType) (ids : List ℕ) (types : List DefTy
       (verdict_as
       (each add_one (at_globals []) parts.globals)
       (at_globals parts.globals)
-      (λ a. fit_within (are_within (IsValidEntry F types) IsTyped (length before) 1000000 [] parts.globals (omega (arith, few)) a))
-      (λ a. all_behind (IsValidEntry F types) IsTyped (length before) 1000000 [] parts.globals (within_fit a))
+      (λ a. fit_within (are_within (IsValidEntry F types) IsTyped (length before) most_globals [] parts.globals (omega (arith, few)) a))
+      (λ a. all_behind (IsValidEntry F types) IsTyped (length before) most_globals [] parts.globals (within_fit a))
       (each_verdict IsRightEntry IsReached add_one at_globals global_step global_kept parts.globals [] (All-nil (IsValidEntry F types), refl)))

@@ -11,7 +11,7 @@ use Rattle.wasm_spec_rules.specs.IndexSpaces.{IndexSpaces, index_spaces, importe
 use Rattle.wasm_spec_rules.specs.ItemRules.{IsValidTableEntry, IsValidMemory, IsValidTag}
 use Rattle.wasm_spec_rules.specs.LinkRules.{IsValidExport, HasDistinctNames, effective_size, sum, import_size, export_size}
 use Rattle.wasm_spec_rules.specs.SegmentRules.{IsValidElement, IsValidData}
-use Rattle.wasm_spec_rules.specs.Limits.{most_tables, most_memories}
+use Rattle.wasm_spec_rules.specs.Limits.{most_functions, most_tables, most_memories, most_globals, most_tags, size_limit}
 use Rattle.wasm_laws_core.specs.WasmValidatorTypes.Spaces.{Spaces}
 use Rattle.wasm_laws_core.specs.Shown.{spaces_of}
 use Rattle.wasm_laws_core.specs.Lists.{only_types, only_imports, up_to_functions, add_imports, add_functions, add_memories, add_tags, add_exports}
@@ -49,7 +49,7 @@ module _ (constants : ConstantsAreOverNumbers) (matching : ReferencesMatchOverId
   ImportsFit = AreValidImports F types parts.imports
 
   abbrev FunctionsFit : Type 0
-  FunctionsFit = All (IsFunctionType types) parts.functions × (length C.functions ≤ 1000000)
+  FunctionsFit = All (IsFunctionType types) parts.functions × (length C.functions ≤ most_functions)
 
   abbrev TablesFit : Type 0
   TablesFit = (All (IsValidTableEntry F types) parts.tables × All (IsTypedTable nat_eq F (context_of C n parts) (imported_globals parts) (number_at n)) parts.tables) × (length C.tables ≤ most_tables F)
@@ -58,16 +58,16 @@ module _ (constants : ConstantsAreOverNumbers) (matching : ReferencesMatchOverId
   MemoriesFit = All (IsValidMemory F) parts.memories × (length C.memories ≤ most_memories F)
 
   abbrev TagsFit : Type 0
-  TagsFit = All (IsValidTag F types) parts.tags × (length C.tags ≤ 1000000)
+  TagsFit = All (IsValidTag F types) parts.tags × (length C.tags ≤ most_tags)
 
   abbrev IsTypedEntry : ℕ → GlobalEntry Expression ℕ → Type 0
   IsTypedEntry x g = IsTypedGlobal nat_eq F (context_of C n parts) (imported_globals parts) (number_at n) x g
 
   abbrev GlobalsFit : Type 0
-  GlobalsFit = (All (IsValidEntry F types) parts.globals × AllFrom IsTypedEntry (imported_globals parts) parts.globals) × (length C.globals ≤ 1000000)
+  GlobalsFit = (All (IsValidEntry F types) parts.globals × AllFrom IsTypedEntry (imported_globals parts) parts.globals) × (length C.globals ≤ most_globals)
 
   abbrev ExportsFit : Type 0
-  ExportsFit = All (IsValidExport F C) parts.exports × HasDistinctNames parts.exports × (effective_size C parts.imports parts.exports < 1000000)
+  ExportsFit = All (IsValidExport F C) parts.exports × HasDistinctNames parts.exports × (effective_size C parts.imports parts.exports < size_limit)
 
   abbrev IsTypedSegment : Element Expression ℕ → Type 0
   IsTypedSegment e = IsTypedElement nat_eq F (context_of C n parts) (imported_globals parts) (number_at n) e
@@ -128,7 +128,7 @@ module _ (constants : ConstantsAreOverNumbers) (matching : ReferencesMatchOverId
   tags_law : ImportsFit → FunctionsFit → TablesFit → StepLaw (from_tags (shown (up_to_memories parts))) (TagsFit × FromGlobals) (shown parts)
   tags_law i f t =
       then_law (add_tags F us (shown (up_to_memories parts)) parts.tags) (shown (up_to_tags parts)) from_globals (shown parts)
-      (tags_are_added F us ids types w.stand (up_to_memories parts) refl refl (alone (imported tags_in parts.imports) 1000000 i.few_tags) parts.tags)
+      (tags_are_added F us ids types w.stand (up_to_memories parts) refl refl (alone (imported tags_in parts.imports) most_tags i.few_tags) parts.tags)
       (globals_law i f t)
 
   abbrev from_memories : Spaces → Option Spaces
@@ -159,7 +159,7 @@ module _ (constants : ConstantsAreOverNumbers) (matching : ReferencesMatchOverId
   functions_law : ImportsFit → StepLaw (from_functions (shown (only_imports parts.imports))) DefinitionsFit (shown parts)
   functions_law i =
       then_law (add_functions us (shown (only_imports parts.imports)) parts.functions) (shown (up_to_functions parts)) from_tables (shown parts)
-      (functions_are_added F us ids types w.stand (only_imports parts.imports) refl refl (alone (imported functions_in parts.imports) 1000000 i.few_functions) parts.functions)
+      (functions_are_added F us ids types w.stand (only_imports parts.imports) refl refl (alone (imported functions_in parts.imports) most_functions i.few_functions) parts.functions)
       (tables_law i)
 
   lists_law : StepLaw (add_all_lists F us (only_types ids) parts) (ImportsFit × DefinitionsFit) (shown parts)
@@ -202,18 +202,18 @@ module _ (constants : ConstantsAreOverNumbers) (matching : ReferencesMatchOverId
         segments = for_each (λ (d : Data Expression). IsValidData F C d × AreTypedBytes d) AreTypedBytes parts.segments (λ _ p. p.1) g.1.1.1;
       }
 
-  small_imports : (a b : ℕ) → 1 + (a + b) < 1000000 → 1 + (a + 0) < 1000000
+  small_imports : (a b : ℕ) → 1 + (a + b) < size_limit → 1 + (a + 0) < size_limit
   small_imports a b small = omega (arith, small)
 
   imports_fit : AreValidModuleLists F C parts → ImportsFit
   imports_fit v = record {
     valid = v.imports;
     size = small_imports (sum (map (import_size types) parts.imports)) (sum (map (export_size C) parts.exports)) v.size;
-    few_functions = front (imported functions_in parts.imports) parts.functions 1000000 v.few_functions;
+    few_functions = front (imported functions_in parts.imports) parts.functions most_functions v.few_functions;
     few_tables = front (imported tables_in parts.imports) (map table_type parts.tables) (most_tables F) v.few_tables;
     few_memories = front (imported memories_in parts.imports) parts.memories (most_memories F) v.few_memories;
-    few_globals = front (imported globals_in parts.imports) (map global_type parts.globals) 1000000 v.few_globals;
-    few_tags = front (imported tags_in parts.imports) parts.tags 1000000 v.few_tags;
+    few_globals = front (imported globals_in parts.imports) (map global_type parts.globals) most_globals v.few_globals;
+    few_tags = front (imported tags_in parts.imports) parts.tags most_tags v.few_tags;
   }
 
   fit_from : AreValidModuleLists F C parts × AreTypedConstants F types n parts → ImportsFit × DefinitionsFit

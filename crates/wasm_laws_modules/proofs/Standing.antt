@@ -179,7 +179,7 @@ module _ (F : Features) (us : List DefType) (valid : AreValid F us) (one : HasNo
     )
 
     down_on : (d x : DefType) → Contains types d → supertype_of declared d ≡ Some x → ancestors 64 x < ancestors 64 d
-    down_on d x c g = let v = All-contains (IsValidType F declared) types d accepted.valid c in fewer 63 d x v.rules.at_most_63_ancestors g
+    down_on d x c g = let v = All-contains (IsValidType F declared) types d accepted.valid c in fewer 63 d x v.rules.few_ancestors g
 
     pub renamed_on : AreRenamed us sids types distinct n
     renamed_on = renamed one_id_on one_type_on (ancestors 64) down_on (λ id d p. ap (ancestors 64) (p.same on)) same_sub_on

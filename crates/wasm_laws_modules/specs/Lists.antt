@@ -10,7 +10,7 @@ use Rattle.wasm_spec_rules.specs.IndexSpaces.{IndexSpaces, IsFunctionType}
 use Rattle.wasm_spec_rules.specs.ItemRules.{IsValidTableEntry, IsValidMemory, IsValidTag, IsValidGlobal}
 use Rattle.wasm_spec_rules.specs.LinkRules.{IsValidImport, IsValidExport, HasDistinctNames, effective_size}
 use Rattle.wasm_spec_rules.specs.SegmentRules.{IsValidElement, IsValidData}
-use Rattle.wasm_spec_rules.specs.Limits.{most_tables, most_memories}
+use Rattle.wasm_spec_rules.specs.Limits.{most_functions, most_tables, most_memories, most_globals, most_tags, size_limit}
 use Rattle.wasm_spec_rules.specs.Sections.{each}
 use Rattle.wasm_laws_core.specs.WasmValidatorCanonical.Sections.{written}
 use Rattle.wasm_laws_core.specs.WasmValidatorTypes.Spaces.{Spaces}
@@ -62,11 +62,11 @@ pub record AreValidModuleLists (F : Features) (C : IndexSpaces) (parts : Parts) 
   pub globals : All (λ (g : GlobalEntry Expression ℕ). IsValidGlobal F C.types g.ty) parts.globals
   pub exports : All (IsValidExport F C) parts.exports
   pub export_names : HasDistinctNames parts.exports
-  pub size : effective_size C parts.imports parts.exports < 1000000
+  pub size : effective_size C parts.imports parts.exports < size_limit
   pub elements : All (IsValidElement F C) parts.elements
   pub segments : All (IsValidData F C) parts.segments
-  pub few_functions : length C.functions ≤ 1000000
+  pub few_functions : length C.functions ≤ most_functions
   pub few_tables : length C.tables ≤ most_tables F
   pub few_memories : length C.memories ≤ most_memories F
-  pub few_globals : length C.globals ≤ 1000000
-  pub few_tags : length C.tags ≤ 1000000
+  pub few_globals : length C.globals ≤ most_globals
+  pub few_tags : length C.tags ≤ most_tags

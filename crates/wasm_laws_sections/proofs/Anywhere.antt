@@ -17,6 +17,7 @@ use Rattle.wasm_spec_rules.specs.ItemRules.{IsValidGlobal}
 use Rattle.wasm_spec_rules.specs.LinkRules.{IsValidStart}
 use Rattle.wasm_spec_rules.specs.Parts.{Parts, Expression}
 use Rattle.wasm_spec_rules.specs.Sections.{each}
+use Rattle.wasm_spec_rules.specs.Limits.{most_globals, most_segments, most_body_bytes}
 use Rattle.wasm_spec_rules.proofs.Tests.{then_some, guarded}
 use Rattle.wasm_spec_validity.specs.Expressions.{expression_at}
 use Rattle.wasm_spec_validity.specs.Modules.{Numbering}
@@ -106,8 +107,8 @@ starts_anywhere old new us m n C parts x r =
     )
 
 -- the data count
-count_right : (F : Features) (k : ℕ) → Decides (is_data_count F k) (IsTrue F.bulk_memory × (k ≤ 100000))
-count_right F k = Decides-and F.bulk_memory (leb k 100000) (λ e. e, λ e. e) (leb-true k 100000, le-leb k 100000)
+count_right : (F : Features) (k : ℕ) → Decides (is_data_count F k) (IsTrue F.bulk_memory × (k ≤ most_segments))
+count_right F k = Decides-and F.bulk_memory (leb k most_segments) (λ e. e, λ e. e) (leb-true k most_segments, le-leb k most_segments)
 
 pub data_counts_anywhere : DataCountsAnywhere
 data_counts_anywhere old new us m n C parts k r =
@@ -134,10 +135,10 @@ left_some a b d t e h = let some = eqb-false ((a - b) - t) 0 h in omega (arith, 
 some_left : (a b d t : ℕ) → b + d ≡ a → t < d → eqb ((a - b) - t) 0 ≡ false
 some_left a b d t e h = ne_eqb ((a - b) - t) 0 (λ none. omega (arith, e, h, none))
 
-body_given : (old : Standing) (us : TypesSoFar) (m : Spaces) (c : Started) (bytes : List ℕ) → eqb (bodies_left m c) 0 ≡ false → leb (length bytes) 7654321 ≡ true
+body_given : (old : Standing) (us : TypesSoFar) (m : Spaces) (c : Started) (bytes : List ℕ) → eqb (bodies_left m c) 0 ≡ false → leb (length bytes) most_body_bytes ≡ true
     → at_stage old (body_taken bytes (in_code us m c)) ≡ Some (record old { stage = in_code us m (taking c) })
 body_given old us m c bytes some few =
-    ap (λ b. at_stage old (cond b None (cond (leb (length bytes) 7654321) (Some (in_code us m (taking c))) None))) some
+    ap (λ b. at_stage old (cond b None (cond (leb (length bytes) most_body_bytes) (Some (in_code us m (taking c))) None))) some
     ∙ ap (λ b. at_stage old (cond b (Some (in_code us m (taking c))) None)) few
 
 pub bodies_anywhere : BodiesAnywhere
@@ -145,8 +146,8 @@ bodies_anywhere old new us m c C parts bytes r =
     let here : after_body old bytes ≡ at_stage old (body_taken bytes (in_code us m c)) = ap (λ (g : Stage). at_stage old (body_taken bytes g)) r.stage in
     let defined : length m.imported_functions + length parts.functions ≡ length m.functions = r.shows.imported.defined ∙ sym (ap length r.shows.functions.same) in (
       λ e. let a = body_some old new bytes us m c (sym here ∙ e) in
-          ((left_some (length m.functions) (length m.imported_functions) (length parts.functions) c.taken defined a.0, leb-true (length bytes) 7654321 a.1), sym a.2),
-      λ p. here ∙ body_given old us m c bytes (some_left (length m.functions) (length m.imported_functions) (length parts.functions) c.taken defined p.0.0) (le-leb (length bytes) 7654321 p.0.1) ∙ ap Some (sym p.1),
+          ((left_some (length m.functions) (length m.imported_functions) (length parts.functions) c.taken defined a.0, leb-true (length bytes) most_body_bytes a.1), sym a.2),
+      λ p. here ∙ body_given old us m c bytes (some_left (length m.functions) (length m.imported_functions) (length parts.functions) c.taken defined p.0.0) (le-leb (length bytes) most_body_bytes p.0.1) ∙ ap Some (sym p.1),
     )
 
 -- tables
@@ -259,10 +260,10 @@ module _ (F : Features) (us : TypesSoFar) (parts : Parts) where
   AreValidGlobals types gs = All (λ (g : GlobalEntry Expression ℕ). IsValidGlobal F types g.ty) gs
 
   -- one more leaves room for the others
-  longer : (s : Spaces) (g : GlobalEntry Expression ℕ) (gs : List (GlobalEntry Expression ℕ)) → length s.globals + length (g ∷ gs) ≤ 1000000 → length (next_global s g).globals + length gs ≤ 1000000
+  longer : (s : Spaces) (g : GlobalEntry Expression ℕ) (gs : List (GlobalEntry Expression ℕ)) → length s.globals + length (g ∷ gs) ≤ most_globals → length (next_global s g).globals + length gs ≤ most_globals
   longer s g gs few = let many = length-append s.globals (listed_global s.types g.ty ∷ []) in omega (arith, few, many)
 
-  pub globals_all : (gs : List (GlobalEntry Expression ℕ)) (s t : Spaces) (C : IndexSpaces) (k : Numbering C.types) → Shows F us s C parts → length s.globals + length gs ≤ 1000000
+  pub globals_all : (gs : List (GlobalEntry Expression ℕ)) (s t : Spaces) (C : IndexSpaces) (k : Numbering C.types) → Shows F us s C parts → length s.globals + length gs ≤ most_globals
       → AddsEach (FitsGlobal F us C.types) next_global s gs t → AreValidGlobals C.types gs × AreRightGlobals F C parts k gs × (with_globals s gs ≡ t)
   globals_all [] s t C k h few a = (All-nil (λ (g : GlobalEntry Expression ℕ). IsValidGlobal F C.types g.ty), tt, no_globals s ∙ a)
   globals_all (g ∷ gs) s t C k h few a =
@@ -270,7 +271,7 @@ module _ (F : Features) (us : TypesSoFar) (parts : Parts) where
       let rest = globals_all gs (next_global s g) t (with_global C g) k (global_shown F us s C parts h g right.0 (omega (arith, few))) (longer s g gs few) a.1 in
       (All-cons (λ (x : GlobalEntry Expression ℕ). IsValidGlobal F C.types x.ty) g gs right.0 rest.0, (right, rest.1), sym (one_global s g gs) ∙ rest.2)
 
-  pub globals_each : (gs : List (GlobalEntry Expression ℕ)) (s t : Spaces) (C : IndexSpaces) (k : Numbering C.types) → Shows F us s C parts → length s.globals + length gs ≤ 1000000
+  pub globals_each : (gs : List (GlobalEntry Expression ℕ)) (s t : Spaces) (C : IndexSpaces) (k : Numbering C.types) → Shows F us s C parts → length s.globals + length gs ≤ most_globals
       → AreRightGlobals F C parts k gs → with_globals s gs ≡ t → AddsEach (FitsGlobal F us C.types) next_global s gs t
   globals_each [] s t C k h few a e = sym (no_globals s) ∙ e
   globals_each (g ∷ gs) s t C k h few a e = (
@@ -322,25 +323,25 @@ module _ (F : Features) (us : TypesSoFar) (m : Spaces) (C : IndexSpaces) (parts 
       pub items : List (Data Expression)
       pub read : items_at (data_at expression_at) count bytes ≡ Some items
       pub rules : All IsRight items
-      pub few : length items ≤ 100000
+      pub few : length items ≤ most_segments
 
-    entries : data_items F us count bytes m ≡ option_and_then (limited add same_item 0 100000 m) (items_at (data_at expression_at) count bytes)
-    entries = section_entries add same_item 0 100000 m (data_at expression_at) (data_at expression_at) (renames_nothing (data_at expression_at)) count bytes
+    entries : data_items F us count bytes m ≡ option_and_then (limited add same_item 0 most_segments m) (items_at (data_at expression_at) count bytes)
+    entries = section_entries add same_item 0 most_segments m (data_at expression_at) (data_at expression_at) (renames_nothing (data_at expression_at)) count bytes
 
     pub segments_from : (t : Spaces) → data_items F us count bytes m ≡ Some t → AreSegments × (m ≡ t)
     segments_from t e =
-        let b = then_some (limited add same_item 0 100000 m) (items_at (data_at expression_at) count bytes) t (sym entries ∙ e) in
-        let c = guarded (leb (0 + length b.0) 100000) (each add m (map same_item b.0)) t b.2 in
+        let b = then_some (limited add same_item 0 most_segments m) (items_at (data_at expression_at) count bytes) t (sym entries ∙ e) in
+        let c = guarded (leb (0 + length b.0) most_segments) (each add m (map same_item b.0)) t b.2 in
         let a = segments_all b.0 t (sym (each_changed add same_item m b.0) ∙ c.1) in
-        let few = leb-true (0 + length b.0) 100000 c.0 in
+        let few = leb-true (0 + length b.0) most_segments c.0 in
         (record { items = b.0; read = b.1; rules = a.0; few = omega (arith, few) }, a.1)
 
     pub segments_to : AreSegments → data_items F us count bytes m ≡ Some m
     segments_to s =
         let few = s.few in
         entries
-        ∙ ap (option_and_then (limited add same_item 0 100000 m)) s.read
-        ∙ ap (λ b. cond b (each add m (map same_item s.items)) None) (le-leb (0 + length s.items) 100000 (omega (arith, few)))
+        ∙ ap (option_and_then (limited add same_item 0 most_segments m)) s.read
+        ∙ ap (λ b. cond b (each add m (map same_item s.items)) None) (le-leb (0 + length s.items) most_segments (omega (arith, few)))
         ∙ each_changed add same_item m s.items
         ∙ segments_each s.items s.rules
 

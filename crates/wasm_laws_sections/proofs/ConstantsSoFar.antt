@@ -23,6 +23,7 @@ use Rattle.wasm_spec_rules.specs.IndexSpaces.{IndexSpaces, ref_over, IsRefInRang
 use Rattle.wasm_spec_rules.specs.ItemRules.{IsAllowedRef, IsValidTableEntry, IsValidGlobal}
 use Rattle.wasm_spec_rules.specs.Parts.{Parts, Expression}
 use Rattle.wasm_spec_rules.specs.SegmentRules.{items_type, items_count, AreValidItems, index_or_first, GoesToTable, IsValidElementMode, IsValidDataMode}
+use Rattle.wasm_spec_rules.specs.Limits.{most_items}
 use Rattle.wasm_spec_validity.specs.WasmOperatorSteps.Meanings.{address}
 use Rattle.wasm_spec_validity.specs.Modules.{Numbering, number_at, context_of, imported_globals}
 use Rattle.wasm_spec_validity.specs.Typing.{IsConstant, IsTypedElementMode, AreTypedItems, IsTypedDataMode}
@@ -216,27 +217,27 @@ module _ (F : Features) (us : TypesSoFar) (C : IndexSpaces) (parts : Parts) (k :
   is_item r e = is_constant_of F (types_declare us us) s (reference (map_ref (canonical_index s.types) (map_ref written r))) e
 
   abbrev are_below : List ℕ → List ℕ → Bool
-  are_below fs xs = list_all (λ x. nat_lt x (length fs)) xs && nat_le (length xs) 10000000
+  are_below fs xs = list_all (λ x. nat_lt x (length fs)) xs && nat_le (length xs) most_items
 
-  items_decided : (x : ElementItems Expression ℕ) → Decides (are_items F (types_declare us us) s (map_items written x)) ((AreValidItems F C x × (items_count x ≤ 10000000)) × AreTyped x)
+  items_decided : (x : ElementItems Expression ℕ) → Decides (are_items F (types_declare us us) s (map_items written x)) ((AreValidItems F C x × (items_count x ≤ most_items)) × AreTyped x)
   items_decided (functions xs) =
       let below : ℕ → Bool = λ x. nat_lt x (length C.functions) in
       let IsBelow : ℕ → Type 0 = λ x. x < length C.functions in
       Decides-at (are_below s.functions xs) (are_below C.functions xs) (ap (λ (fs : List ℕ). are_below fs xs) h.functions.same)
-      (Decides-like (list_all below xs && nat_le (length xs) 10000000) (λ (p : All IsBelow xs × (length xs ≤ 10000000)). (p, tt)) (λ p. p.0)
-      (Decides-and (list_all below xs) (nat_le (length xs) 10000000)
+      (Decides-like (list_all below xs && nat_le (length xs) most_items) (λ (p : All IsBelow xs × (length xs ≤ most_items)). (p, tt)) (λ p. p.0)
+      (Decides-and (list_all below xs) (nat_le (length xs) most_items)
       (Decides-by_and below IsBelow (list_all below) (λ x. Decides-ltb x (length C.functions)) refl (λ _ _. refl) xs)
-      (few_decided (length xs) 10000000)))
+      (few_decided (length xs) most_items)))
   items_decided (expressions r es) =
       let allowed : Bool = allows_ref F (map_ref written r) && is_ref_in_range (length s.types) (map_ref written r) in
       let IsItem : Expression → Type 0 = IsConstantHere (reference (map_ref (number_at k) r)) in
       let constant : Bool = list_all (is_item r) es in
-      Decides-like ((allowed && constant) && nat_le (length es) 10000000) (λ (p : (IsAllowedRef F C.types r × All IsItem es) × (length es ≤ 10000000)). ((p.0.0, p.1), p.0.1)) (λ p. ((p.0.0, p.1), p.0.1))
-      (Decides-and (allowed && constant) (nat_le (length es) 10000000)
+      Decides-like ((allowed && constant) && nat_le (length es) most_items) (λ (p : (IsAllowedRef F C.types r × All IsItem es) × (length es ≤ most_items)). ((p.0.0, p.1), p.0.1)) (λ p. ((p.0.0, p.1), p.0.1))
+      (Decides-and (allowed && constant) (nat_le (length es) most_items)
       (decides_then allowed constant (ref_decided r)
       (λ (v : IsAllowedRef F C.types r). Decides-by_and (is_item r) IsItem (list_all (is_item r))
       (λ e. constant_decided F us s.types C parts k h.types s count shown (reference r) v.in_range e) refl (λ _ _. refl) es))
-      (few_decided (length es) 10000000))
+      (few_decided (length es) most_items))
 
   items_in_range : (x : ElementItems Expression ℕ) → AreValidItems F C x → IsRefInRange C.types (items_type x)
   items_in_range (functions xs) v = All-nil (λ y. y < length C.types)

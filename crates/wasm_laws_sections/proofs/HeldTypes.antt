@@ -14,6 +14,7 @@ use Rattle.wasm_spec.specs.TypeLaws.{HasNoRepetition}
 use Rattle.wasm_spec.proofs.Closing.{front_of_type_space, slice_get-append_left}
 use Rattle.wasm_spec_rules.specs.IndexSpaces.{IndexSpaces, IsFunctionType, IsRefInRange, IsValInRange}
 use Rattle.wasm_spec_rules.specs.Parts.{Parts}
+use Rattle.wasm_spec_rules.specs.Limits.{most_types, most_functions, most_tags}
 use Rattle.wasm_spec_rules.proofs.Tests.{then_some}
 use Rattle.wasm_readers_types.specs.WasmReadersValues.declared.indices.UnpackedIndex.{UnpackedIndex}
 use Rattle.wasm_validator_type_groups.specs.Elements.{numbers_from}
@@ -110,7 +111,7 @@ pub record Grows (F : Features) (ids : List ℕ) (ts : List DefType) (vs : Types
   pub has : HasTypes F vs xs (ts ++ new_types)
 
 pub grown : (F : Features) (us : TypesSoFar) (ids : List ℕ) (types : List DefType) → HasTypes F us ids types → (gs : List (Rec ℕ)) (vs : TypesSoFar) (xs : List ℕ)
-    → with_all_written F us ids gs ≡ Some (vs, xs) → AreValid F vs → length xs ≤ 1000000 → Grows F ids types vs xs
+    → with_all_written F us ids gs ≡ Some (vs, xs) → AreValid F vs → length xs ≤ most_types → Grows F ids types vs xs
 grown F us ids types h gs vs xs e valid few =
     let all = h.groups ++ gs in
     let added : with_all_written F h.before [] all ≡ Some (vs, xs) = behind_groups F h.groups gs h.before [] (us, ids) (vs, xs) h.added e in
@@ -150,8 +151,8 @@ module _ (types more : List DefType) where
   below_grows : (xs : List ℕ) → All (λ x. x < length types) xs → All (λ x. x < length (types ++ more)) xs
   below_grows xs h = for_each (λ x. x < length types) (λ x. x < length (types ++ more)) xs (λ x b. let longer = length-append types more in omega (arith, b, longer)) h
 
-  indices_grow : (xs ys : List ℕ) → ShowsIndices types xs ys → ShowsIndices (types ++ more) xs ys
-  indices_grow xs ys h = record { same = h.same; of_functions = for_each (IsFunctionType types) (IsFunctionType (types ++ more)) ys (function_grows types more) h.of_functions; few = h.few }
+  indices_grow : (most : ℕ) (xs ys : List ℕ) → ShowsIndices most types xs ys → ShowsIndices most (types ++ more) xs ys
+  indices_grow most xs ys h = record { same = h.same; of_functions = for_each (IsFunctionType types) (IsFunctionType (types ++ more)) ys (function_grows types more) h.of_functions; few = h.few }
 
   module _ (ids new : List ℕ) (many : length ids ≡ length types) where
     agree : (x : ℕ) → x < length types → listed ids x ≡ listed (ids ++ new) x
@@ -178,11 +179,11 @@ types_shown F us m C parts h vs xs g =
     let many = as_many F us m.types C.types h.types in
     record {
       types = g.has;
-      functions = indices_grow C.types g.new_types m.functions C.functions h.functions;
+      functions = indices_grow C.types g.new_types most_functions m.functions C.functions h.functions;
       tables = subst (λ (ids : List ℕ). ShowsTables F ids (C.types ++ g.new_types) m.tables C.tables) (sym g.ids_are) (tables_grow C.types g.new_types m.types g.new_ids many F m.tables C.tables h.tables);
       memories = h.memories;
       globals = subst (λ (ids : List ℕ). ShowsGlobals ids (C.types ++ g.new_types) m.globals C.globals) (sym g.ids_are) (globals_grow C.types g.new_types m.types g.new_ids many m.globals C.globals h.globals);
-      tags = indices_grow C.types g.new_types m.tags C.tags h.tags;
+      tags = indices_grow C.types g.new_types most_tags m.tags C.tags h.tags;
       exports = h.exports;
       imported = h.imported;
     }

@@ -19,6 +19,7 @@ use Rattle.wasm_spec_rules.specs.IndexSpaces.{IndexSpaces, table_type, global_ty
 use Rattle.wasm_spec_rules.specs.ItemRules.{IsValidTableEntry}
 use Rattle.wasm_spec_rules.specs.Parts.{Parts, index}
 use Rattle.wasm_spec_rules.specs.Sections.{each}
+use Rattle.wasm_spec_rules.specs.Limits.{most_types}
 use Rattle.wasm_spec_rules.proofs.Tests.{then_some, guarded}
 use Rattle.wasm_spec_validity.specs.Modules.{Numbering}
 use Rattle.wasm_spec_validity.proofs.Numbered.{types_are_numbered}
@@ -99,10 +100,10 @@ module _ (s t : Standing) (us : TypesSoFar) (m : Spaces) (n : Noted) (stage : s.
   with_types v e =
       let add = add_group s.features in
       let there = length m.types in
-      let entries = section_entries add (map_rec written) there 1000000 (us, m) (rec_at index) (rec_at written) (rec_renames written index) count bytes in
+      let entries = section_entries add (map_rec written) there most_types (us, m) (rec_at index) (rec_at written) (rec_renames written index) count bytes in
       let a = within_some s t us m n (naming []) (λ p. type_items s.features count bytes p) (sym (at_module s us m n 1 count bytes stage) ∙ e) in
-      let b = then_some (limited add (map_rec written) there 1000000 (us, m)) (items_at (rec_at index) count bytes) a.0 (sym entries ∙ a.1) in
-      let c = guarded (leb (there + length b.0) 1000000) (each add (us, m) (map (map_rec written) b.0)) a.0 b.2 in
+      let b = then_some (limited add (map_rec written) there most_types (us, m)) (items_at (rec_at index) count bytes) a.0 (sym entries ∙ a.1) in
+      let c = guarded (leb (there + length b.0) most_types) (each add (us, m) (map (map_rec written) b.0)) a.0 b.2 in
       let x = ends_at s.features b.0 (us, m) a.0 h.shows.types.few c.1 in
       let valid : AreValid F a.0.0 = valid_before s t a.0 (naming [] n) a.2 v in
       let still : AreValid F x.end.0 = subst (λ (p : TypesSoFar × Spaces). AreValid F p.0) (sym x.is) valid in

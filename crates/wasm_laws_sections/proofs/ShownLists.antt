@@ -12,7 +12,7 @@ use Rattle.wasm_spec.specs.Trees.{DefType}
 use Rattle.wasm_spec_rules.specs.Contexts.{exact_in}
 use Rattle.wasm_spec_rules.specs.IndexSpaces.{IndexSpaces, functions_in, tables_in, memories_in, globals_in, tags_in, imported, table_type, global_type, IsFunctionType, IsRefInRange, IsValInRange}
 use Rattle.wasm_spec_rules.specs.ItemRules.{IsValidTableEntry, IsValidTag, IsValidGlobal}
-use Rattle.wasm_spec_rules.specs.Limits.{most_tables, most_memories}
+use Rattle.wasm_spec_rules.specs.Limits.{most_functions, most_tables, most_memories, most_globals, most_tags}
 use Rattle.wasm_spec_rules.specs.LinkRules.{IsValidExtern, export_name, IsValidExport}
 use Rattle.wasm_spec_rules.specs.Parts.{Parts, Expression}
 use Rattle.wasm_readers_types.specs.WasmReadersValues.declared.indices.UnpackedIndex.{UnpackedIndex}
@@ -32,8 +32,8 @@ mapped f g (x ∷ xs) = λ i. f (g x) ∷ mapped f g xs i
 
 -- one kind of item behind others
 module _ (types : List DefType) where
-  indices_behind : (xs ys zs : List ℕ) → ShowsIndices types xs ys → All (IsFunctionType types) zs → length xs + length zs ≤ 1000000 → ShowsIndices types (xs ++ zs) (ys ++ zs)
-  indices_behind xs ys zs h a few = record {
+  indices_behind : (most : ℕ) (xs ys zs : List ℕ) → ShowsIndices most types xs ys → All (IsFunctionType types) zs → length xs + length zs ≤ most → ShowsIndices most types (xs ++ zs) (ys ++ zs)
+  indices_behind most xs ys zs h a few = record {
     same = ap (λ ws. ws ++ zs) h.same;
     of_functions = All-append (IsFunctionType types) ys zs h.of_functions a;
     few = let many = length-append xs zs in omega (arith, few, many);
@@ -53,7 +53,7 @@ module _ (types : List DefType) where
     few = let many = length-append xs (map (listed_table ids) zs) in let same_many = length-map zs (listed_table ids) in omega (arith, few, many, same_many);
   }
 
-  pub globals_behind : (ids : List ℕ) (xs : List (Global UnpackedIndex)) (ys zs : List (Global ℕ)) → ShowsGlobals ids types xs ys → All IsGlobalInRange zs → length xs + length zs ≤ 1000000
+  pub globals_behind : (ids : List ℕ) (xs : List (Global UnpackedIndex)) (ys zs : List (Global ℕ)) → ShowsGlobals ids types xs ys → All IsGlobalInRange zs → length xs + length zs ≤ most_globals
       → ShowsGlobals ids types (xs ++ map (listed_global ids) zs) (ys ++ zs)
   globals_behind ids xs ys zs h a few = record {
     same = ap (λ gs. gs ++ map (listed_global ids) zs) h.same ∙ sym (map-append (listed_global ids) ys zs);
@@ -186,11 +186,11 @@ module _ (F : Features) (us : TypesSoFar) (m : Spaces) (C : IndexSpaces) (parts 
       let room = fits.1.0 in
       record {
         types = h.types;
-        functions = indices_behind C.types m.functions C.functions (functions_in i.ty) h.functions (functions_valid F C.types i.ty v.item) room.few_functions;
+        functions = indices_behind C.types most_functions m.functions C.functions (functions_in i.ty) h.functions (functions_valid F C.types i.ty v.item) room.few_functions;
         tables = tables_behind C.types F m.types m.tables C.tables (tables_in i.ty) h.tables (tables_valid F C.types i.ty v.item) room.few_tables;
         memories = memories_behind F m.memories C.memories (memories_in i.ty) h.memories room.few_memories;
         globals = globals_behind C.types m.types m.globals C.globals (globals_in i.ty) h.globals (globals_valid F C.types i.ty v.item) room.few_globals;
-        tags = indices_behind C.types m.tags C.tags (tags_in i.ty) h.tags (tags_valid F C.types i.ty v.item) room.few_tags;
+        tags = indices_behind C.types most_tags m.tags C.tags (tags_in i.ty) h.tags (tags_valid F C.types i.ty v.item) room.few_tags;
         exports = record { names = h.exports.names; small = fits.1.1 };
         imported = record {
           same = ap (λ bs. bs ++ exact_in i.ty) h.imported.same ∙ sym (import_behind exact_in parts.imports i);
@@ -204,11 +204,11 @@ module _ (F : Features) (us : TypesSoFar) (m : Spaces) (C : IndexSpaces) (parts 
         };
       }
 
-  pub functions_shown : (xs : List ℕ) → All (IsFunctionType C.types) xs → length m.functions + length xs ≤ 1000000
+  pub functions_shown : (xs : List ℕ) → All (IsFunctionType C.types) xs → length m.functions + length xs ≤ most_functions
       → Shows F us (record m { functions = m.functions ++ xs }) (record C { functions = C.functions ++ xs }) (record parts { functions = parts.functions ++ xs })
   functions_shown xs a few = record {
     types = h.types;
-    functions = indices_behind C.types m.functions C.functions xs h.functions a few;
+    functions = indices_behind C.types most_functions m.functions C.functions xs h.functions a few;
     tables = h.tables;
     memories = h.memories;
     globals = h.globals;
@@ -255,14 +255,14 @@ module _ (F : Features) (us : TypesSoFar) (m : Spaces) (C : IndexSpaces) (parts 
     imported = h.imported;
   }
 
-  pub tags_shown : (xs : List ℕ) → All (IsValidTag F C.types) xs → length m.tags + length xs ≤ 1000000 → Shows F us (record m { tags = m.tags ++ xs }) (record C { tags = C.tags ++ xs }) parts
+  pub tags_shown : (xs : List ℕ) → All (IsValidTag F C.types) xs → length m.tags + length xs ≤ most_tags → Shows F us (record m { tags = m.tags ++ xs }) (record C { tags = C.tags ++ xs }) parts
   tags_shown xs a few = record {
     types = h.types;
     functions = h.functions;
     tables = h.tables;
     memories = h.memories;
     globals = h.globals;
-    tags = indices_behind C.types m.tags C.tags xs h.tags (for_each (IsValidTag F C.types) (IsFunctionType C.types) xs (λ x (v : IsValidTag F C.types x). v.is_of_function_type) a) few;
+    tags = indices_behind C.types most_tags m.tags C.tags xs h.tags (for_each (IsValidTag F C.types) (IsFunctionType C.types) xs (λ x (v : IsValidTag F C.types x). v.is_of_function_type) a) few;
     exports = h.exports;
     imported = h.imported;
   }
@@ -270,7 +270,7 @@ module _ (F : Features) (us : TypesSoFar) (m : Spaces) (C : IndexSpaces) (parts 
   abbrev IsValidEntry : GlobalEntry Expression ℕ → Type 0
   IsValidEntry g = IsValidGlobal F C.types g.ty
 
-  pub globals_shown : (gs : List (GlobalEntry Expression ℕ)) → All (λ (g : GlobalEntry Expression ℕ). IsValidGlobal F C.types g.ty) gs → length m.globals + length gs ≤ 1000000
+  pub globals_shown : (gs : List (GlobalEntry Expression ℕ)) → All (λ (g : GlobalEntry Expression ℕ). IsValidGlobal F C.types g.ty) gs → length m.globals + length gs ≤ most_globals
       → Shows F us (record m { globals = m.globals ++ map (λ (g : GlobalEntry Expression ℕ). listed_global m.types g.ty) gs }) (record C { globals = C.globals ++ map global_type gs }) parts
   globals_shown gs a few = record {
     types = h.types;
@@ -289,7 +289,7 @@ module _ (F : Features) (us : TypesSoFar) (m : Spaces) (C : IndexSpaces) (parts 
   }
 
   -- a global behind those that are there
-  pub global_shown : (g : GlobalEntry Expression ℕ) → IsValidGlobal F C.types g.ty → length m.globals + 1 ≤ 1000000
+  pub global_shown : (g : GlobalEntry Expression ℕ) → IsValidGlobal F C.types g.ty → length m.globals + 1 ≤ most_globals
       → Shows F us (record m { globals = m.globals ++ listed_global m.types g.ty ∷ [] }) (record C { globals = C.globals ++ g.ty ∷ [] }) parts
   global_shown g v few = record {
     types = h.types;

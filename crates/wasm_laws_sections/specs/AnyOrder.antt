@@ -11,7 +11,7 @@ use Rattle.wasm_spec.specs.Features.{Features}
 use Rattle.wasm_spec_rules.specs.FeatureFlags.{features_of}
 use Rattle.wasm_spec_rules.specs.IndexSpaces.{IndexSpaces, IsFunctionType}
 use Rattle.wasm_spec_rules.specs.ItemRules.{IsValidTableEntry, IsValidMemory, IsValidTag, IsValidGlobal}
-use Rattle.wasm_spec_rules.specs.Limits.{most_tables, most_memories}
+use Rattle.wasm_spec_rules.specs.Limits.{most_imports, most_functions, most_tables, most_memories, most_globals, most_tags, most_exports, most_elements, most_segments, most_body_bytes}
 use Rattle.wasm_spec_rules.specs.LinkRules.{IsValidExport, IsValidStart}
 use Rattle.wasm_spec_rules.specs.Parts.{Parts, Expression, index}
 use Rattle.wasm_spec_rules.specs.SegmentRules.{IsValidElement, IsValidData}
@@ -52,7 +52,7 @@ abbrev pub DataCountsAnywhere : Type 0
 DataCountsAnywhere =
     (old new : Standing) (us : TypesSoFar) (m : Spaces) (n : Noted) (C : IndexSpaces) (parts : Parts) (k : ℕ) → Reads old us m n C parts
     → (after_data_count old k ≡ Some new)
-    ↔ ((IsTrue (features_of old.features).bulk_memory × (k ≤ 100000)) × (new ≡ record old { stage = in_module us m (counting k n) }))
+    ↔ ((IsTrue (features_of old.features).bulk_memory × (k ≤ most_segments)) × (new ≡ record old { stage = in_module us m (counting k n) }))
 
 -- the start of the code
 abbrev pub CodeStartsAnywhere : Type 0
@@ -65,7 +65,7 @@ abbrev pub BodiesAnywhere : Type 0
 BodiesAnywhere =
     (old new : Standing) (us : TypesSoFar) (m : Spaces) (c : Started) (C : IndexSpaces) (parts : Parts) (bytes : List ℕ) → ReadsCode old us m c C parts
     → (after_body old bytes ≡ Some new)
-    ↔ (((c.taken < length parts.functions) × (length bytes ≤ 7654321)) × (new ≡ record old { stage = in_code us m (taking c) }))
+    ↔ (((c.taken < length parts.functions) × (length bytes ≤ most_body_bytes)) × (new ≡ record old { stage = in_code us m (taking c) }))
 
 -- the module's types, which the machine adds and the validator keeps where they are valid
 abbrev pub TypesAnywhere : Type 0
@@ -77,13 +77,13 @@ abbrev pub ImportsAnywhere : Type 0
 ImportsAnywhere =
     (old new : Standing) (us : TypesSoFar) (m : Spaces) (n : Noted) (C : IndexSpaces) (parts : Parts) (count : ℕ) (bytes : List ℕ) → Reads old us m n C parts
     → (after_section old 2 count bytes ≡ Some new)
-    ↔ HasAddedEach (import_at index) (FitsImport (features_of old.features) C.types) (with_entry m.types C.types) (length m.imports) 1000000 old new us m n count bytes
+    ↔ HasAddedEach (import_at index) (FitsImport (features_of old.features) C.types) (with_entry m.types C.types) (length m.imports) most_imports old new us m n count bytes
 
 abbrev pub FunctionsAnywhere : Type 0
 FunctionsAnywhere =
     (old new : Standing) (us : TypesSoFar) (m : Spaces) (n : Noted) (C : IndexSpaces) (parts : Parts) (count : ℕ) (bytes : List ℕ) → Reads old us m n C parts
     → (after_section old 3 count bytes ≡ Some new)
-    ↔ HasAdded u32_at (IsFunctionType C.types) (length m.functions) 1000000 (λ xs. record m { functions = m.functions ++ xs }) old new us n count bytes
+    ↔ HasAdded u32_at (IsFunctionType C.types) (length m.functions) most_functions (λ xs. record m { functions = m.functions ++ xs }) old new us n count bytes
 
 abbrev pub MemoriesAnywhere : Type 0
 MemoriesAnywhere =
@@ -96,13 +96,13 @@ TagsAnywhere =
     (old new : Standing) (us : TypesSoFar) (m : Spaces) (n : Noted) (C : IndexSpaces) (parts : Parts) (count : ℕ) (bytes : List ℕ) → Reads old us m n C parts
     → (after_section old 13 count bytes ≡ Some new)
     ↔ ((IsTrue (features_of old.features).exceptions)
-    × HasAdded tag_at (IsValidTag (features_of old.features) C.types) (length m.tags) 1000000 (λ xs. record m { tags = m.tags ++ xs }) old new us n count bytes)
+    × HasAdded tag_at (IsValidTag (features_of old.features) C.types) (length m.tags) most_tags (λ xs. record m { tags = m.tags ++ xs }) old new us n count bytes)
 
 abbrev pub ExportsAnywhere : Type 0
 ExportsAnywhere =
     (old new : Standing) (us : TypesSoFar) (m : Spaces) (n : Noted) (C : IndexSpaces) (parts : Parts) (count : ℕ) (bytes : List ℕ) → Reads old us m n C parts
     → (after_section old 7 count bytes ≡ Some new)
-    ↔ ((added : HasAdded export_at (IsValidExport (features_of old.features) C) (length m.exports) 1000000 (with_exports (features_of old.features) C m) old new us (naming (names_of_exports count bytes) n) count bytes)
+    ↔ ((added : HasAdded export_at (IsValidExport (features_of old.features) C) (length m.exports) most_exports (with_exports (features_of old.features) C m) old new us (naming (names_of_exports count bytes) n) count bytes)
     × FitExports C m added.items)
 
 -- Items with constant expressions, typed in the context of the lists so far, whose types go under numbers. An expression sees all globals
@@ -139,7 +139,7 @@ abbrev pub GlobalsAnywhere : Type 0
 GlobalsAnywhere =
     (old new : Standing) (us : TypesSoFar) (m : Spaces) (n : Noted) (C : IndexSpaces) (parts : Parts) (k : Numbering C.types) (count : ℕ) (bytes : List ℕ) → Reads old us m n C parts
     → (after_section old 6 count bytes ≡ Some new)
-    ↔ ((added : HasAdded (global_entry_at expression_at index) (λ (g : GlobalEntry Expression ℕ). IsValidGlobal (features_of old.features) C.types g.ty) (length m.globals) 1000000
+    ↔ ((added : HasAdded (global_entry_at expression_at index) (λ (g : GlobalEntry Expression ℕ). IsValidGlobal (features_of old.features) C.types g.ty) (length m.globals) most_globals
     (λ gs. record m { globals = m.globals ++ map (λ (g : GlobalEntry Expression ℕ). listed_global m.types g.ty) gs }) old new us (naming (names_of_globals count bytes) n) count bytes)
     × AreRightGlobals (features_of old.features) C parts k added.items)
 
@@ -147,7 +147,7 @@ abbrev pub ElementsAnywhere : Type 0
 ElementsAnywhere =
     (old new : Standing) (us : TypesSoFar) (m : Spaces) (n : Noted) (C : IndexSpaces) (parts : Parts) (k : Numbering C.types) (count : ℕ) (bytes : List ℕ) → Reads old us m n C parts
     → (after_section old 9 count bytes ≡ Some new)
-    ↔ HasAdded (element_at expression_at index) (IsRightElement (features_of old.features) C parts k) (length m.elements) 100000
+    ↔ HasAdded (element_at expression_at index) (IsRightElement (features_of old.features) C parts k) (length m.elements) most_elements
     (λ es. record m { elements = m.elements ++ map (listed_element m.types) es }) old new us (naming (names_of_elements count bytes) n) count bytes
 
 -- The bytes are so many items of which each keeps its rule, few enough, and nothing changes.
@@ -162,9 +162,9 @@ pub record HasChecked {V : Type 0} (reads : List ℕ → Option (V × List ℕ))
 abbrev pub SegmentsAnywhere : Type 0
 SegmentsAnywhere =
     (old new : Standing) (us : TypesSoFar) (m : Spaces) (n : Noted) (C : IndexSpaces) (parts : Parts) (k : Numbering C.types) (count : ℕ) (bytes : List ℕ) → Reads old us m n C parts
-    → (after_section old 11 count bytes ≡ Some new) ↔ HasChecked (data_at expression_at) (IsRightData (features_of old.features) C parts k) 100000 old new count bytes
+    → (after_section old 11 count bytes ≡ Some new) ↔ HasChecked (data_at expression_at) (IsRightData (features_of old.features) C parts k) most_segments old new count bytes
 
 abbrev pub SegmentsAfterCode : Type 0
 SegmentsAfterCode =
     (old new : Standing) (us : TypesSoFar) (m : Spaces) (c : Started) (C : IndexSpaces) (parts : Parts) (k : Numbering C.types) (count : ℕ) (bytes : List ℕ) → ReadsCode old us m c C parts
-    → (after_section old 11 count bytes ≡ Some new) ↔ HasChecked (data_at expression_at) (IsRightData (features_of old.features) C parts k) 100000 old new count bytes
+    → (after_section old 11 count bytes ≡ Some new) ↔ HasChecked (data_at expression_at) (IsRightData (features_of old.features) C parts k) most_segments old new count bytes

@@ -9,7 +9,7 @@ use Rattle.wasm_spec.specs.Trees.{DefType}
 use Rattle.wasm_spec_rules.specs.Contexts.{exact_in}
 use Rattle.wasm_spec_rules.specs.FeatureFlags.{features_of}
 use Rattle.wasm_spec_rules.specs.IndexSpaces.{IndexSpaces, IsFunctionType, IsRefInRange, IsValInRange}
-use Rattle.wasm_spec_rules.specs.Limits.{most_tables, most_memories}
+use Rattle.wasm_spec_rules.specs.Limits.{most_types, most_functions, most_tables, most_memories, most_globals, most_tags, size_limit}
 use Rattle.wasm_spec_rules.specs.Parts.{Parts}
 use Rattle.wasm_spec_validity.specs.Modules.{imported_globals}
 use Rattle.wasm_readers_types.specs.WasmReadersValues.declared.indices.UnpackedIndex.{UnpackedIndex}
@@ -41,13 +41,13 @@ pub record HasTypes (F : Features) (us : TypesSoFar) (ids : List ℕ) (types : L
   pub holds : HoldsSection F before groups (us, ids)
   pub are : holds.section.types ≡ types
   pub valid : AreValid F us
-  pub few : length ids ≤ 1000000
+  pub few : length ids ≤ most_types
 
--- A list of functions or of tags, by the indices of their types, which are function types.
-pub record ShowsIndices (types : List DefType) (listed shown : List ℕ) : Type 0 where
+-- A list of functions or of tags, by the indices of their types, which are function types, and no more than so many.
+pub record ShowsIndices (most : ℕ) (types : List DefType) (listed shown : List ℕ) : Type 0 where
   pub same : listed ≡ shown
   pub of_functions : All (IsFunctionType types) shown
-  pub few : length listed ≤ 1000000
+  pub few : length listed ≤ most
 
 -- tables, whose types are in range
 pub record ShowsTables (F : Features) (ids : List ℕ) (types : List DefType) (listed : List (Table UnpackedIndex)) (shown : List (Table ℕ)) : Type 0 where
@@ -62,12 +62,12 @@ pub record ShowsMemories (F : Features) (listed shown : List Memory) : Type 0 wh
 pub record ShowsGlobals (ids : List ℕ) (types : List DefType) (listed : List (Global UnpackedIndex)) (shown : List (Global ℕ)) : Type 0 where
   pub same : listed ≡ map (listed_global ids) shown
   pub in_range : All (λ (g : Global ℕ). IsValInRange types g.content) shown
-  pub few : length listed ≤ 1000000
+  pub few : length listed ≤ most_globals
 
 -- no name is exported twice, and the size of the module's type is below its limit
 pub record ShowsExports (rows : List (List ℕ × Entity)) (size : ℕ) : Type 0 where
   pub names : export_laws.AreApart (map export_laws.row_name rows)
-  pub small : size < 1000000
+  pub small : size < size_limit
 
 -- of the functions so many are imported, exactly or not, and the others are defined; and so many globals are imported
 pub record ShowsImported (parts : Parts) (functions : List ℕ) (exactly : List Bool) (globals : ℕ) : Type 0 where
@@ -79,11 +79,11 @@ pub record ShowsImported (parts : Parts) (functions : List ℕ) (exactly : List 
 -- read are those of these parts.
 pub record Shows (F : Features) (us : TypesSoFar) (m : Spaces) (C : IndexSpaces) (parts : Parts) : Type 0 where
   pub types : HasTypes F us m.types C.types
-  pub functions : ShowsIndices C.types m.functions C.functions
+  pub functions : ShowsIndices most_functions C.types m.functions C.functions
   pub tables : ShowsTables F m.types C.types m.tables C.tables
   pub memories : ShowsMemories F m.memories C.memories
   pub globals : ShowsGlobals m.types C.types m.globals C.globals
-  pub tags : ShowsIndices C.types m.tags C.tags
+  pub tags : ShowsIndices most_tags C.types m.tags C.tags
   pub exports : ShowsExports m.exports m.size
   pub imported : ShowsImported parts C.functions m.imported_functions m.imported_globals
 

@@ -11,6 +11,7 @@ use Rattle.wasm_spec_rules.specs.WasmSpec.MatchingTests.{World}
 use Rattle.wasm_spec_rules.specs.Attempts.{◌>>=◌}
 use Rattle.wasm_spec_rules.specs.Contexts.{Context}
 use Rattle.wasm_spec_rules.specs.Signatures.{Signature, signature_of, resolve_val}
+use Rattle.wasm_spec_rules.specs.Limits.{most_locals}
 use Rattle.wasm_operators.specs.Control.{func_block}
 use Rattle.wasm_operators.specs.Instructions.{Instruction}
 use Rattle.wasm_operator_steps.specs.Bodies.{Local, Surroundings}
@@ -55,7 +56,7 @@ module _ {R : Type 0} (W : World R) (B : Surroundings R) where
     pub listed : list_at declaration_at bytes ≡ Some (declarations, behind)
     pub declared : declared_locals B.features B.context.types declarations ≡ Some locals
     pub all : ls ≡ B.locals ++ locals
-    pub few : length ls ≤ 50000
+    pub few : length ls ≤ most_locals
     pub written : Are instructions behind []
     pub typed : steps_in W (with_locals B ls) instructions s ≡ Some t
     pub finished : is_finished t ≡ true

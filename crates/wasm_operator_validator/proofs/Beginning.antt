@@ -13,6 +13,7 @@ use Rattle.wasm_operator_blocks.specs.WasmOperatorChecks.WasmSpecRules.Attempts.
 use Rattle.wasm_operator_blocks.specs.WasmOperatorChecks.WasmOperatorSteps.Bodies.{Local}
 use Rattle.wasm_operator_blocks.specs.WasmOperatorChecks.WasmOperatorSteps.Machine.{State, block_kind, push_frame}
 use Rattle.wasm_operator_blocks.specs.WasmOperatorChecks.WasmSpecRules.Signatures.{Signature, signature_of}
+use Rattle.wasm_operator_blocks.specs.WasmOperatorChecks.WasmSpecRules.Limits.{most_locals}
 use Rattle.wasm_operator_blocks.specs.WasmOperatorChecks.WasmOperatorSteps.Steps.{start}
 use Rattle.wasm_operator_blocks.specs.WasmOperatorChecks.WasmValidatorResources.Answers.{sub_in}
 use Rattle.wasm_operator_fast.specs.WasmOperatorControl.Blocks.{function_in}
@@ -41,9 +42,9 @@ module _ (C : Context UnpackedIndex) (n : ℕ) (d : Sub UnpackedIndex) where
   signature_found g e f = sym f ∙ ap (λ o. option_map (λ (x : Sub UnpackedIndex). x.comp) o >>= signature_of) e
 
   -- too many parameters
-  pub many_found : (X : Type 0) (r : OperatorError) (g : Signature UnpackedIndex) (xs : List ValType) → IsRefused r → Some d ≡ sub_in C n → signature_of d.comp ≡ Some g → g.takes ≡ map val_of xs → 50000 < length xs → HasMany {X = X} (Err r) (function_in C n)
+  pub many_found : (X : Type 0) (r : OperatorError) (g : Signature UnpackedIndex) (xs : List ValType) → IsRefused r → Some d ≡ sub_in C n → signature_of d.comp ≡ Some g → g.takes ≡ map val_of xs → most_locals < length xs → HasMany {X = X} (Err r) (function_in C n)
   many_found X (Refused f) g xs i e h j k =
-      subst (λ o. HasMany {X = X} (Err (Refused f)) o) (signature_found g e h) (subst (λ m. 50000 < m) (sym (length-map xs val_of) ∙ ap length (sym j)) k)
+      subst (λ o. HasMany {X = X} (Err (Refused f)) o) (signature_found g e h) (subst (λ m. most_locals < m) (sym (length-map xs val_of) ∙ ap length (sym j)) k)
   many_found X OutOfMemory g xs i e h j k = absurd i
 
 pub ruleset begins = (begun, parameters_found, shared_found, many_found)

@@ -2,6 +2,7 @@
 use Rattle.std.proofs.Common.{◌≡◌, ℕ, ◌+◌, ◌<◌, ◌≤◌, Bool, true, false, List, ◌++◌, inl, inr, refl, sym, ◌∙◌, ap, length, arith}
 use Rattle.std.specs.Prelude.{Option, Some, None, Ok, Err, replicate, IsTrue, ◌↔◌}
 use Rattle.wasm_operator_blocks.specs.WasmOperatorChecks.WasmSpecRules.WasmSpec.Syntax.{Val}
+use Rattle.wasm_operator_blocks.specs.WasmOperatorChecks.WasmSpecRules.Limits.{most_locals}
 use Rattle.wasm_readers_types.specs.WasmReadersValues.declared.indices.UnpackedIndex.{UnpackedIndex}
 use Rattle.wasm_operator_blocks.specs.WasmOperatorChecks.WasmOperatorSteps.Bodies.{Local}
 use Rattle.wasm_operator_blocks.specs.WasmOperatorChecks.WasmOperatorSteps.Meanings.{has_default}
@@ -11,7 +12,7 @@ use Rattle.wasm_operator_validator.specs.Typed.{locals_in, declared_local, IsRef
 use Rattle.wasm_operator_validator.specs.declared.validator.OperatorValidator.{OperatorValidator}
 use Rattle.wasm_operator_validator.proofs.Defining.{local_is}
 
-past : (k : ℕ) → (k ≤ 50000 → ⊥) → 50000 < k
+past : (k : ℕ) → (k ≤ most_locals → ⊥) → most_locals < k
 past k h = grind arith
 
 module _ {A : Type 0} (o : Option (Val UnpackedIndex)) (n : ℕ) (v w : OperatorValidator A) where
@@ -23,7 +24,7 @@ module _ {A : Type 0} (o : Option (Val UnpackedIndex)) (n : ℕ) (v w : Operator
   declared_untyped (Refused f) r h = λ g. inl h
   declared_untyped OutOfMemory r h = tt
 
-  pub declared_past : (e : OperatorError) (b : Bool) → IsRefused e → (IsTrue b ↔ (length (locals_in v) + n ≤ 50000)) → b ≡ false → Defines (Err e) o n v w
+  pub declared_past : (e : OperatorError) (b : Bool) → IsRefused e → (IsTrue b ↔ (length (locals_in v) + n ≤ most_locals)) → b ≡ false → Defines (Err e) o n v w
   declared_past (Refused f) b r i h = λ g. inr (past (length (locals_in v) + n) (λ k. let q : true ≡ false = sym (i.1 k) ∙ h in cc))
   declared_past OutOfMemory b r i h = tt
 
@@ -31,7 +32,7 @@ module _ {A : Type 0} (o : Option (Val UnpackedIndex)) (n : ℕ) (v w : Operator
   declared_not (Refused f) h = cc
   declared_not OutOfMemory h = tt
 
-  pub declared_more : (x : Unit {0}) (t : Val UnpackedIndex) (l : Local UnpackedIndex) (b : Bool) (y : Val UnpackedIndex) → o ≡ Some t → v.failed ≡ false → (IsTrue b ↔ (length (locals_in v) + n ≤ 50000)) → b ≡ true
+  pub declared_more : (x : Unit {0}) (t : Val UnpackedIndex) (l : Local UnpackedIndex) (b : Bool) (y : Val UnpackedIndex) → o ≡ Some t → v.failed ≡ false → (IsTrue b ↔ (length (locals_in v) + n ≤ most_locals)) → b ≡ true
       → l.content ≡ y → y ≡ t → l.set ≡ has_default y → locals_in w ≡ locals_in v ++ replicate n l → Defines (Ok x) o n v w
   declared_more x t l b y e f i h c d g j =
       let k : l ≡ declared_local t = local_is l t (has_default t) (c ∙ d) (g ∙ ap has_default d) in

@@ -2,6 +2,7 @@
 use Rattle.std.proofs.Common.{◌≡◌, ℕ, ◌+◌, ◌<◌, ◌≤◌, Bool, true, List, [], ◌∷◌, ◌++◌, length, take, map, get_or, refl, sym, ◌∙◌, ap, arith, add-one, append_assoc}
 use Rattle.std.specs.Prelude.{zero, suc, replicate}
 use Rattle.wasm_operator_blocks.specs.WasmOperatorChecks.WasmSpecRules.WasmSpec.Syntax.{Val}
+use Rattle.wasm_operator_blocks.specs.WasmOperatorChecks.WasmSpecRules.Limits.{most_locals}
 use Rattle.wasm_readers_types.specs.WasmReadersValues.SeenValues.{val_of}
 use Rattle.wasm_readers_types.specs.WasmReadersValues.declared.indices.UnpackedIndex.{UnpackedIndex}
 use Rattle.wasm_readers_types.specs.WasmReadersValues.declared.values.ValType.{ValType}
@@ -46,7 +47,7 @@ parameter_added vs n v w x xs ys zs h a b c d e =
     e ∙ ap (λ us. us ++ local_of w ∷ []) d ∙ append_assoc xs (parameters (take n vs)) (local_of w ∷ [])
     ∙ ap (λ us. xs ++ us) (ap (λ k. parameters (take n vs) ++ k ∷ []) l ∙ sym (one_more vs n v h) ∙ ap (λ k. parameters (take k vs)) (sym (add-one n)))
 
-pub parameter_fits : (vs : List ValType) (n : ℕ) (xs ys : List (Local UnpackedIndex)) → n < length vs → ys ≡ xs ++ parameters (take n vs) → length xs + length vs ≤ 50000 → length ys + 1 ≤ 50000
+pub parameter_fits : (vs : List ValType) (n : ℕ) (xs ys : List (Local UnpackedIndex)) → n < length vs → ys ≡ xs ++ parameters (take n vs) → length xs + length vs ≤ most_locals → length ys + 1 ≤ most_locals
 parameter_fits vs n xs ys h e f = let c = count_of vs xs n (omega arith) in rw e (omega arith)
 
 pub all_parameters : (vs : List ValType) (n : ℕ) (xs ys : List (Local UnpackedIndex)) → n ≡ length vs → ys ≡ xs ++ parameters (take n vs) → ys ≡ xs ++ parameters vs

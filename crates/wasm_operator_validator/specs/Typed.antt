@@ -9,6 +9,7 @@ use Rattle.wasm_operators.specs.Control.{value_block, func_block}
 use Rattle.wasm_operator_blocks.specs.WasmOperatorChecks.WasmOperatorSteps.Bodies.{Local}
 use Rattle.wasm_operator_blocks.specs.WasmOperatorChecks.WasmOperatorSteps.Machine.{State}
 use Rattle.wasm_operator_blocks.specs.WasmOperatorChecks.WasmSpecRules.Signatures.{Signature}
+use Rattle.wasm_operator_blocks.specs.WasmOperatorChecks.WasmSpecRules.Limits.{most_locals}
 use Rattle.wasm_operator_blocks.specs.WasmOperatorChecks.WasmOperatorSteps.Meanings.{has_default}
 use Rattle.wasm_operator_blocks.specs.WasmOperatorChecks.WasmOperatorSteps.Steps.{start}
 use Rattle.wasm_operator_blocks.specs.WasmOperatorChecks.WasmValidatorResources.Answers.{sub_in}
@@ -52,7 +53,7 @@ module _ {A : Type 0} (v : OperatorValidator A) where
 abbrev pub HasMany : {X : Type 0} → Result X OperatorError → Option (Signature UnpackedIndex) → Type 0
 HasMany (Ok x) g = ⊤
 HasMany (Err (Refused f)) None = ⊥
-HasMany (Err (Refused f)) (Some g) = 50000 < length g.takes
+HasMany (Err (Refused f)) (Some g) = most_locals < length g.takes
 HasMany (Err OutOfMemory) g = ⊤
 
 -- a refusal, and not want of memory
@@ -62,7 +63,7 @@ IsRefused OutOfMemory = ⊥
 
 -- So many locals more of the type that is resolved so, where there is one and there is room; else a refusal, and the locals stay.
 abbrev pub Defines : {A : Type 0} → Result (Unit {0}) OperatorError → Option (Val UnpackedIndex) → ℕ → OperatorValidator A → OperatorValidator A → Type 0
-Defines (Ok x) (Some t) n v w = (v.failed ≡ false) × (length (locals_in v) + n ≤ 50000) × (locals_in w ≡ locals_in v ++ replicate n (declared_local t))
+Defines (Ok x) (Some t) n v w = (v.failed ≡ false) × (length (locals_in v) + n ≤ most_locals) × (locals_in w ≡ locals_in v ++ replicate n (declared_local t))
 Defines (Ok x) None n v w = ⊥
-Defines (Err (Refused f)) o n v w = v.failed ≡ false → (o ≡ None) ⊎ (50000 < length (locals_in v) + n)
+Defines (Err (Refused f)) o n v w = v.failed ≡ false → (o ≡ None) ⊎ (most_locals < length (locals_in v) + n)
 Defines (Err OutOfMemory) o n v w = ⊤

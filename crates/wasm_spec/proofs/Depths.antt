@@ -5,6 +5,7 @@ use Rattle.std.proofs.lemmas.Bool.{ltb-true, ltb-false}
 use Rattle.std.proofs.lemmas.Option.{none-some}
 use Rattle.wasm_spec.specs.Syntax.{Sub}
 use Rattle.wasm_spec.specs.Features.{Features}
+use Rattle.wasm_spec.specs.Limits.{most_ancestors}
 use Rattle.wasm_spec.specs.Declared.{ancestor_at, IsDepth, Links}
 use Rattle.wasm_spec.specs.GroupRules.{IsValidType}
 use Rattle.wasm_spec.specs.TypeLaws.{DepthsAreSmall}
@@ -41,23 +42,23 @@ module _ {R : Type 0} (D : R → Option (Sub R)) where
       (truth (ltb n m)))
       (truth (ltb m n))
 
-  small_depth : (F : Features) (a : R) (n : ℕ) → IsValidType F D a → IsDepth D a n → n ≤ 63
+  small_depth : (F : Features) (a : R) (n : ℕ) → IsValidType F D a → IsDepth D a n → n ≤ most_ancestors
   small_depth F a n v h =
       ⊎_elim
-      (λ (l : ltb n 64 ≡ true). let x : n < 64 = ltb-true n 64 l in omega (arith, x))
-      (λ (l : ltb n 64 ≡ false). absurd (fewer 64 n a h.top (ltb-false n 64 l) h.leads v.rules.at_most_63_ancestors))
-      (truth (ltb n 64))
+      (λ (l : ltb n (most_ancestors + 1) ≡ true). let x : n < most_ancestors + 1 = ltb-true n (most_ancestors + 1) l in omega (arith, x))
+      (λ (l : ltb n (most_ancestors + 1) ≡ false). absurd (fewer (most_ancestors + 1) n a h.top (ltb-false n (most_ancestors + 1) l) h.leads v.rules.few_ancestors))
+      (truth (ltb n (most_ancestors + 1)))
 
-few_steps : {R : Type 0} (D : R → Option (Sub R)) (F : Features) (a b : R) (n : ℕ) → IsValidType F D a → ancestor_at D n a ≡ Some b → n ≤ 63
+few_steps : {R : Type 0} (D : R → Option (Sub R)) (F : Features) (a b : R) (n : ℕ) → IsValidType F D a → ancestor_at D n a ≡ Some b → n ≤ most_ancestors
 few_steps D F a b n v e =
     ⊎_elim
-    (λ (l : ltb n 64 ≡ true). let x : n < 64 = ltb-true n 64 l in omega (arith, x))
-    (λ (l : ltb n 64 ≡ false). absurd (fewer D 64 n a b (ltb-false n 64 l) e v.rules.at_most_63_ancestors))
-    (truth (ltb n 64))
+    (λ (l : ltb n (most_ancestors + 1) ≡ true). let x : n < most_ancestors + 1 = ltb-true n (most_ancestors + 1) l in omega (arith, x))
+    (λ (l : ltb n (most_ancestors + 1) ≡ false). absurd (fewer D (most_ancestors + 1) n a b (ltb-false n (most_ancestors + 1) l) e v.rules.few_ancestors))
+    (truth (ltb n (most_ancestors + 1)))
 
-few_links : {R : Type 0} (D : R → Option (Sub R)) (F : Features) (a b : R) (n : ℕ) → IsValidType F D a → Links D a b n → n ≤ 63
+few_links : {R : Type 0} (D : R → Option (Sub R)) (F : Features) (a b : R) (n : ℕ) → IsValidType F D a → Links D a b n → n ≤ most_ancestors
 few_links D F a b n v (inl e) = few_steps D F a b n v e
 few_links D F a b n v (inr h) = few_steps D F a h.1.top n v h.1.leads
 
 pub depths_are_small : {R : Type 0} → DepthsAreSmall R
-depths_are_small = record { one_depth = λ D a m n. same_depth D a m n; at_most_63 = λ F D a n. small_depth D F a n; few_links = λ F D a b n. few_links D F a b n }
+depths_are_small = record { one_depth = λ D a m n. same_depth D a m n; few_ancestors = λ F D a n. small_depth D F a n; few_links = λ F D a b n. few_links D F a b n }

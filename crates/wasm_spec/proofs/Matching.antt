@@ -458,7 +458,7 @@ module _ {R : Type 0} (F : Features) (D : R → Option (Sub R)) (ts : List R) (h
   accepted_keeps = keeps_kind D (Contains ts) accepted_mentions accepted_declares accepted_matches
 
   accepted_ends : (a : R) → Contains ts a → EndsAbove D a
-  accepted_ends a i = record { steps = 64; ends = (valid a i).rules.at_most_63_ancestors }
+  accepted_ends a i = record { steps = 64; ends = (valid a i).rules.few_ancestors }
 
   accepted_ancestors_match : (a b : R) (s t : Sub R) → Contains ts a → IsAncestor D a b → D a ≡ Some s → D b ≡ Some t → MatchesSub D s t
   accepted_ancestors_match a b s t i p = matches_from D (Contains ts) accepted_mentions accepted_declares accepted_matches p.steps a b s t i p.leads

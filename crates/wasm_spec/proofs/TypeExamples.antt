@@ -29,7 +29,7 @@ extends_open_struct = record {
   subtyping_needs_gc = λ _. refl;
   supertype_is_not_final = refl;
   matches_supertype = record { same_shared = refl; comp = tt };
-  at_most_63_ancestors = refl;
+  few_ancestors = refl;
   shared_needs_shared_everything_threads = λ _. refl;
   members_of_shared_are_shared = λ _. refl;
   many_results_need_multi_value = λ _. refl;
@@ -74,7 +74,7 @@ struct_rules D a o p e = record {
   subtyping_needs_gc = λ _. refl;
   supertype_is_not_final = tt;
   matches_supertype = tt;
-  at_most_63_ancestors = ap (λ x. option_and_then (ancestor_at D 63) (option_and_then supertype x)) e;
+  few_ancestors = ap (λ x. option_and_then (ancestor_at D 63) (option_and_then supertype x)) e;
   shared_needs_shared_everything_threads = λ _. refl;
   members_of_shared_are_shared = λ _. refl;
   many_results_need_multi_value = λ _. refl;

@@ -1,28 +1,10 @@
--- The limits that modules keep where `crate_limits` asks for them. Core Specification 3.0, Appendix, Implementation
+-- What modules keep where `crate_limits` asks for it, besides the clauses of a `try_table`. Core Specification 3.0, Appendix, Implementation
 -- Limitations, Syntactic Limits; the numbers are those of the Rust crate's readers.
 use Rattle.std.specs.Prelude.{ℕ, ◌≤◌, nat_le, Bool, true, ◌&&◌, List, length, IsTrue}
 use Rattle.wasm_spec.specs.Syntax.{Comp, func, struct}
 use Rattle.wasm_spec.specs.Features.{Features}
+pub use Rattle.wasm_spec.specs.Limits.{most_params, most_results, most_fields, most_clauses, most_name_bytes}
 use Rattle.wasm_spec.specs.ValueTypes.{implies}
-
--- the parameters and the results of a function type
-abbrev pub most_params : ℕ
-most_params = 1000
-
-abbrev pub most_results : ℕ
-most_results = 1000
-
--- the fields of a structure type
-abbrev pub most_fields : ℕ
-most_fields = 10000
-
--- the catch clauses of a `try_table`
-abbrev pub most_clauses : ℕ
-most_clauses = 10000
-
--- the bytes of the names of an import and of an export
-abbrev pub most_name_bytes : ℕ
-most_name_bytes = 100000
 
 -- so many are no more than these, where the limits are asked for
 abbrev pub is_within : Features → ℕ → ℕ → Bool

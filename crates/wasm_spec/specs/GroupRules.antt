@@ -1,7 +1,7 @@
 -- When the recursive types that a module writes are valid. Core Specification 3.0, Validation, Types (Sub Types,
 -- Composite Types), with the features that each form needs and the rules of shared types, continuations and
 -- descriptors of the proposals. The bounds of indices are in the definition of closing.
-use Rattle.std.specs.Prelude.{◌≡◌, ℕ, ◌<◌, Bool, true, false, not, ◌||◌, nat_lt, List, [], ◌∷◌, ◌++◌, map, length, Option, Some, None, is_some, IsTrue, IfSome, ⊤}
+use Rattle.std.specs.Prelude.{◌≡◌, ℕ, ◌+◌, ◌<◌, Bool, true, false, not, ◌||◌, nat_lt, List, [], ◌∷◌, ◌++◌, map, length, Option, Some, None, is_some, IsTrue, IfSome, ⊤}
 use Rattle.std.specs.Option.{option_and_then}
 use Rattle.std.specs.List.{list_all, All}
 use Rattle.wasm_spec.specs.Syntax.{Storage, unpacked, Field, Comp, func, array, struct, cont, Sub, Rec}
@@ -10,6 +10,7 @@ use Rattle.wasm_spec.specs.Trees.{RecTree, DefType, members, declared}
 use Rattle.wasm_spec.specs.Closing.{type_space}
 use Rattle.wasm_spec.specs.Declared.{supertype, supertype_of, descriptor_of, described_by, ancestor_at}
 use Rattle.wasm_spec.specs.ValueTypes.{allows_storage}
+use Rattle.wasm_spec.specs.Limits.{most_ancestors}
 use Rattle.wasm_spec.specs.CrateLimits.{is_limited}
 use Rattle.wasm_spec.specs.Matching.{MatchesSub, is_shared_storage}
 
@@ -62,7 +63,7 @@ pub record TypeRules {R : Type 0} (F : Features) (D : R → Option (Sub R)) (a :
   pub subtyping_needs_gc : IsTrue (not s.is_final || is_some (supertype s)) → IsTrue F.gc
   pub supertype_is_not_final : OfSupertype D s (λ t. t.is_final ≡ false)
   pub matches_supertype : OfSupertype D s (MatchesSub D s)
-  pub at_most_63_ancestors : ancestor_at D 64 a ≡ None
+  pub few_ancestors : ancestor_at D (most_ancestors + 1) a ≡ None
   pub shared_needs_shared_everything_threads : IsTrue s.shared → IsTrue F.shared_everything_threads
   pub members_of_shared_are_shared : IsTrue s.shared → IsTrue (list_all (is_shared_storage D) (storages s.comp))
   pub many_results_need_multi_value : IsTrue (has_many_results s.comp) → IsTrue F.multi_value

@@ -11,6 +11,7 @@ pub mod Features
 pub mod Closing
 pub mod Declared
 pub mod ValueTypes
+pub mod Limits
 pub mod CrateLimits
 pub mod Defaults
 pub mod Matching

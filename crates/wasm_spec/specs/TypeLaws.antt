@@ -6,6 +6,7 @@ use Rattle.std.specs.List.{All, Contains}
 use Rattle.wasm_spec.specs.Syntax.{AbstractHeap, Heap, Ref, Val, Comp, Sub, Rec, map_sub, map_rec}
 use Rattle.wasm_spec.specs.References.{refs_heap, refs_val, refs_comp, refs_sub}
 use Rattle.wasm_spec.specs.Features.{Features, canonical}
+use Rattle.wasm_spec.specs.Limits.{most_ancestors}
 use Rattle.wasm_spec.specs.Trees.{RecTree, TypeUse, DefType, close, members, start_of, declared}
 use Rattle.wasm_spec.specs.Closing.{closed, resolve, with_group, type_space}
 use Rattle.wasm_spec.specs.TypeLists.{ListedUse, by_id, by_position, listed_from, listed_tree, with_listed, types_of}
@@ -178,5 +179,5 @@ ValidTypeSectionIsAccepted = (F : Features) (gs : List (Rec ℕ)) (h : IsValidTy
 -- these are followed from it.
 pub record DepthsAreSmall (R : Type 0) : Type 0 where
   pub one_depth : (D : R → Option (Sub R)) (a : R) (m n : ℕ) → IsDepth D a m → IsDepth D a n → m ≡ n
-  pub at_most_63 : (F : Features) (D : R → Option (Sub R)) (a : R) (n : ℕ) → IsValidType F D a → IsDepth D a n → n ≤ 63
-  pub few_links : (F : Features) (D : R → Option (Sub R)) (a b : R) (n : ℕ) → IsValidType F D a → Links D a b n → n ≤ 63
+  pub few_ancestors : (F : Features) (D : R → Option (Sub R)) (a : R) (n : ℕ) → IsValidType F D a → IsDepth D a n → n ≤ most_ancestors
+  pub few_links : (F : Features) (D : R → Option (Sub R)) (a b : R) (n : ℕ) → IsValidType F D a → Links D a b n → n ≤ most_ancestors

@@ -20,6 +20,7 @@ use Rattle.wasm_spec_rules.specs.SegmentRules.{IsValidElement, IsValidData}
 use Rattle.wasm_spec_rules.specs.Modules.{IsAllowedPiece}
 use Rattle.wasm_readers_errors.specs.WasmSpec.Trees.{TypeUse, DefType, close, denote, declared}
 use Rattle.wasm_spec_rules.specs.ModuleExamples.{TableOfOneOrTwo, NoTableOfTwoToOne, NoTableWithoutEntries, MemoryOfAllAddresses, NoMemoryPastAllAddresses, MemoryOfSmallPages, NoMemoryPastSmallPages, NoMemoryOfLargerPages, NoSharedGlobal, NoTagWithoutExceptions, NoMutableImport, MemoryIsExported, NoSecondMemory, NoNameTwice, SizeIsThree, NoPassiveElements, NoWrittenElements, OffsetsReference, NoPassiveData, NoTwoMemories, HeaderIsModule, NoVersionTwo, NoStartWithParameter, first_version, taking_type}
+use Rattle.wasm_spec_rules.specs.Limits.{most_segments, most_body_bytes}
 
 pub table_of_one_or_two : TableOfOneOrTwo
 table_of_one_or_two = record {
@@ -165,8 +166,8 @@ header_is_module expression_at = record {
       exports = omega arith;
       elements = omega arith;
       segments = omega arith;
-      data_counts = All-nil (λ n. n ≤ 100000);
-      bodies = All-nil (λ (b : List ℕ). length b ≤ 7654321);
+      data_counts = All-nil (λ n. n ≤ most_segments);
+      bodies = All-nil (λ (b : List ℕ). length b ≤ most_body_bytes);
     };
   };
 }

@@ -10,7 +10,7 @@ use Rattle.wasm_spec_rules.specs.IndexSpaces.{IndexSpaces, index_spaces, IsFunct
 use Rattle.wasm_spec_rules.specs.ItemRules.{IsValidTableEntry, IsValidMemory, IsValidTag, IsValidGlobal}
 use Rattle.wasm_spec_rules.specs.LinkRules.{IsValidImport, IsValidExport, HasDistinctNames, effective_size, IsValidStart}
 use Rattle.wasm_spec_rules.specs.SegmentRules.{IsValidElement, IsValidData}
-use Rattle.wasm_spec_rules.specs.Limits.{KeepsLimits}
+use Rattle.wasm_spec_rules.specs.Limits.{size_limit, KeepsLimits}
 
 -- a section is known, and allowed: tags, be they none, with exceptions, and a data count with bulk memory
 abbrev pub IsAllowedPiece : Features → Piece → Type 0
@@ -29,7 +29,7 @@ pub record AreValidParts (F : Features) (C : IndexSpaces) (parts : Parts) : Type
   pub globals : All (λ (g : GlobalEntry Expression ℕ). IsValidGlobal F C.types g.ty) parts.globals
   pub exports : All (IsValidExport F C) parts.exports
   pub export_names : HasDistinctNames parts.exports
-  pub size : effective_size C parts.imports parts.exports < 1000000
+  pub size : effective_size C parts.imports parts.exports < size_limit
   pub starts : All (IsValidStart C) parts.starts
   pub elements : All (IsValidElement F C) parts.elements
   pub segments : All (IsValidData F C) parts.segments

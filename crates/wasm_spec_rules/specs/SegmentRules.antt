@@ -10,6 +10,7 @@ use Rattle.wasm_readers_errors.specs.WasmSpec.Matching.{MatchesRef}
 use Rattle.wasm_spec_rules.specs.Parts.{Expression}
 use Rattle.wasm_spec_rules.specs.IndexSpaces.{IndexSpaces, ref_over}
 use Rattle.wasm_spec_rules.specs.ItemRules.{IsAllowedRef}
+use Rattle.wasm_spec_rules.specs.Limits.{most_items}
 
 -- the type of an element segment's items
 abbrev pub items_type : ElementItems Expression ℕ → Ref ℕ
@@ -44,7 +45,7 @@ IsValidElementMode F C r (active x e) = GoesToTable C (index_or_first x) r
 pub record IsValidElement (F : Features) (C : IndexSpaces) (e : Element Expression ℕ) : Type 0 where
   pub items : AreValidItems F C e.items
   pub mode : IsValidElementMode F C (items_type e.items) e.mode
-  pub few_items : items_count e.items ≤ 10000000
+  pub few_items : items_count e.items ≤ most_items
 
 abbrev pub IsValidDataMode : Features → IndexSpaces → SegmentMode Expression → Type 0
 IsValidDataMode F C passive = IsTrue F.bulk_memory

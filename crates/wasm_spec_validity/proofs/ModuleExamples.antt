@@ -11,6 +11,7 @@ use Rattle.wasm_spec.specs.Features.{Features}
 use Rattle.wasm_spec.specs.Framing.{Piece, Version, Counted, End, u16_at, section_at, Frames, piece_of, all_pieces, IsFramed}
 use Rattle.wasm_spec.specs.GroupRules.{IsValidType}
 use Rattle.wasm_spec.specs.Trees.{declared}
+use Rattle.wasm_spec.specs.Limits.{most_segments, most_body_bytes}
 use Rattle.wasm_operators.specs.Control.{control_from, value_block}
 use Rattle.wasm_operators.specs.Instructions.{instruction_at, plain_from}
 use Rattle.wasm_operators.specs.WasmOperatorsPlain.Constants.{constant_from}
@@ -144,8 +145,8 @@ global_is_module = record {
         exports = omega arith;
         elements = omega arith;
         segments = omega arith;
-        data_counts = All-nil (λ n. n ≤ 100000);
-        bodies = All-nil (λ (b : List ℕ). length b ≤ 7654321);
+        data_counts = All-nil (λ n. n ≤ most_segments);
+        bodies = All-nil (λ (b : List ℕ). length b ≤ most_body_bytes);
       };
     };
   };

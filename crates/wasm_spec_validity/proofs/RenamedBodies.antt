@@ -6,6 +6,7 @@ use Rattle.std.proofs.lemmas.Option.{slice_get-map}
 use Rattle.wasm_spec.specs.Syntax.{Heap, abstract_heap, concrete, exact, Ref, Val, i32, i64, f32, f64, v128, reference, Comp, func, array, struct, cont, Sub, map_heap, map_ref, map_val, map_comp, map_sub}
 use Rattle.wasm_spec.specs.Features.{Features}
 use Rattle.wasm_spec.specs.MatchingTests.{World}
+use Rattle.wasm_spec.specs.Limits.{most_locals}
 use Rattle.wasm_operators.specs.Control.{func_block}
 use Rattle.wasm_operators.specs.Instructions.{Instruction}
 use Rattle.wasm_operator_steps.specs.WasmSpecRules.Attempts.{◌>>=◌, among}
@@ -149,7 +150,7 @@ module _ {R S : Type 0} (f : R → S) (W : World R) (V : World S) (h : Renames f
       listed = b.listed;
       declared = declared_locals-map f F C.types b.declarations ∙ ap (option_map (map (map_local f))) b.declared;
       all = ap (map (map_local f)) b.all ∙ all-map b.locals;
-      few = subst (λ k. k ≤ 50000) (sym (length-map ls (map_local f))) b.few;
+      few = subst (λ k. k ≤ most_locals) (sym (length-map ls (map_local f))) b.few;
       written = b.written;
       typed = steps-map ls b.instructions (start (func_block n)) ∙ ap (option_map (map_state f)) b.typed;
       finished = is_finished-map f t ∙ b.finished;
@@ -170,8 +171,8 @@ module _ {R S : Type 0} (f : R → S) (W : World R) (V : World S) (h : Renames f
         → (ms : List (Local R)) × (declared_locals F types d ≡ Some ms) × (map (map_local f) ms ≡ own)
     declared_back types d own p = from_map (map (map_local f)) (declared_locals F types d) own (sym (declared_locals-map f F types d) ∙ p)
 
-    few_back : (ls : List (Local S)) (ms : List (Local R)) → ls ≡ map (map_local f) ms → length ls ≤ 50000 → length ms ≤ 50000
-    few_back ls ms p l = subst (λ k. k ≤ 50000) (ap length p ∙ length-map ms (map_local f)) l
+    few_back : (ls : List (Local S)) (ms : List (Local R)) → ls ≡ map (map_local f) ms → length ls ≤ most_locals → length ms ≤ most_locals
+    few_back ls ms p l = subst (λ k. k ≤ most_locals) (ap length p ∙ length-map ms (map_local f)) l
 
     finished_back : (t : State R) (u : State S) → map_state f t ≡ u → is_finished u ≡ true → is_finished t ≡ true
     finished_back t u p e = sym (is_finished-map f t) ∙ ap is_finished p ∙ e

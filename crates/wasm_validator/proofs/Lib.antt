@@ -7,3 +7,4 @@ pub mod Calls
 pub mod Held
 mod Going
 pub mod ModuleIds
+mod Limits

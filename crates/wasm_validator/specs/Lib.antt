@@ -7,3 +7,4 @@ pub use Rattle.wasm_validator_modules.specs.Verdict
 pub mod Lists
 pub mod Headline
 pub mod Calls
+pub mod Limits

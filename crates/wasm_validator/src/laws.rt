@@ -1,6 +1,7 @@
 //! Laws over lists of calls of one validator, and over lists of modules.
 
 ghost use Rattle.wasm_validator.specs.Calls.{CallsFollowStateTable, UnacceptedModulesKeepTypes};
+ghost use Rattle.wasm_validator.specs.Limits.{ConstantsAreLimits};
 
 /// Calls of one validator, each of a payload or of `reset`, in any order and with any answers, are a
 /// run of the state table, which begins at `unparsed` where the validator is fresh. A call is
@@ -19,4 +20,10 @@ pub fn calls_follow_state_table<T, A>()
 /// it may be among the modules of `one_id_for_one_type`.
 pub fn unaccepted_modules_keep_types<A>()
     ensures { UnacceptedModulesKeepTypes A }
+{}
+
+/// The public constants `MAX_WASM_TYPES` and so on are the limits by which a module is valid: one
+/// that has more isn't accepted (Core Specification 3.0, Appendix, Implementation Limitations).
+pub fn constants_are_limits()
+    ensures { ConstantsAreLimits }
 {}

@@ -8,6 +8,7 @@ pub mod list;
 
 pub use conditions::holds_types_of;
 pub use laws::calls_follow_state_table;
+pub use laws::constants_are_limits;
 pub use laws::unaccepted_modules_keep_types;
 pub use list::validate_list;
 pub use wasm_validator_modules::CodeState;

@@ -179,7 +179,7 @@ module _ {A : Type 0} where
       (all_numbers (FitsByte new) (first_of new.groups h.group) (length g)
       (λ j from below n d.
       let one = valid j (record { there = slice_get_within new.groups h.group g here; from = from; below = omega (arith, below, next) }) in
-      let small : n ≤ 63 = depths_are_small.at_most_63 F (declares new.groups) j n one d in
+      let small : n ≤ 63 = depths_are_small.few_ancestors F (declares new.groups) j n one d in
       omega (arith, small)))
 
   -- interning a group changes no depth

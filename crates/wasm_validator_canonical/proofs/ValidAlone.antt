@@ -116,7 +116,7 @@ module _ {R : Type 0} (F : Features) (off : canonical F ≡ false) where
         subtyping_needs_gc = rules.subtyping_needs_gc;
         supertype_is_not_final = rules.supertype_is_not_final;
         matches_supertype = rules.matches_supertype;
-        at_most_63_ancestors = ap (λ o. option_and_then (ancestor_at D 63) (option_and_then supertype o)) (sym same) ∙ rules.at_most_63_ancestors;
+        few_ancestors = ap (λ o. option_and_then (ancestor_at D 63) (option_and_then supertype o)) (sym same) ∙ rules.few_ancestors;
         shared_needs_shared_everything_threads = rules.shared_needs_shared_everything_threads;
         members_of_shared_are_shared = rules.members_of_shared_are_shared;
         many_results_need_multi_value = rules.many_results_need_multi_value;

@@ -13,6 +13,7 @@ use Rattle.wasm_readers_errors.specs.declared.error.Error.TheVariants as error
 use Rattle.wasm_readers_types.specs.WasmReadersValues.declared.indices.UnpackedIndex.{UnpackedIndex}
 use Rattle.wasm_operator_steps.specs.Bodies.{Local}
 use Rattle.wasm_spec_rules.specs.Signatures.{resolve_val}
+use Rattle.wasm_spec_rules.specs.Limits.{most_locals}
 use Rattle.wasm_validator_resources.specs.Answers.{written_index, val_in}
 use Rattle.wasm_operator_validator.specs.WasmOperatorChecks.Told.{TellsError}
 use Rattle.wasm_operator_validator.specs.WasmOperatorChecks.declared.faults.OperatorError.{OperatorError}
@@ -40,21 +41,21 @@ val_allowed F (reference r) = ap (λ b. F.reference_types && b) (heap_allowed F 
 same_type : (F : Features) (C : Context UnpackedIndex) (v : Val UnpackedIndex) → type_of F C.types (map_val written_index v) ≡ val_in C F v
 same_type F C v = ap (λ b. if b then resolve_val C.types (map_val written_index v) else None) (val_allowed F v)
 
-past_by : (k : ℕ) (b : Bool) → leb k 50000 ≡ b → 50000 < k → b ≡ false
-past_by k true e h = let le : k ≤ 50000 = leb-true k 50000 e in absurd (omega (arith, le, h))
+past_by : (k : ℕ) (b : Bool) → leb k most_locals ≡ b → most_locals < k → b ≡ false
+past_by k true e h = let le : k ≤ most_locals = leb-true k most_locals e in absurd (omega (arith, le, h))
 past_by k false e h = refl
 
 module _ {R : Type 0} where
   abbrev pub more_of : ℕ → List (Local R) → Option (Val R) → Option (List (Local R))
-  more_of n ls o = option_and_then (λ v. if leb (length ls + n) 50000 then Some (ls ++ replicate n (local_declared v)) else None) o
+  more_of n ls o = option_and_then (λ v. if leb (length ls + n) most_locals then Some (ls ++ replicate n (local_declared v)) else None) o
 
-  pub room : (n : ℕ) (ls : List (Local R)) (v : Val R) → length ls + n ≤ 50000 → more_of n ls (Some v) ≡ Some (ls ++ replicate n (local_declared v))
-  room n ls v h = ap (λ b. if b then Some (ls ++ replicate n (local_declared v)) else None) (le-leb (length ls + n) 50000 h)
+  pub room : (n : ℕ) (ls : List (Local R)) (v : Val R) → length ls + n ≤ most_locals → more_of n ls (Some v) ≡ Some (ls ++ replicate n (local_declared v))
+  room n ls v h = ap (λ b. if b then Some (ls ++ replicate n (local_declared v)) else None) (le-leb (length ls + n) most_locals h)
 
-  no_room : (n : ℕ) (ls : List (Local R)) (v : Val R) → 50000 < length ls + n → more_of n ls (Some v) ≡ None
-  no_room n ls v h = ap (λ b. if b then Some (ls ++ replicate n (local_declared v)) else None) (past_by (length ls + n) (leb (length ls + n) 50000) refl h)
+  no_room : (n : ℕ) (ls : List (Local R)) (v : Val R) → most_locals < length ls + n → more_of n ls (Some v) ≡ None
+  no_room n ls v h = ap (λ b. if b then Some (ls ++ replicate n (local_declared v)) else None) (past_by (length ls + n) (leb (length ls + n) most_locals) refl h)
 
-  not_more : (n : ℕ) (ls : List (Local R)) (o : Option (Val R)) → (o ≡ None) ⊎ (50000 < length ls + n) → more_of n ls o ≡ None
+  not_more : (n : ℕ) (ls : List (Local R)) (o : Option (Val R)) → (o ≡ None) ⊎ (most_locals < length ls + n) → more_of n ls o ≡ None
   not_more n ls None h = refl
   not_more n ls (Some v) (inl e) = absurd cc
   not_more n ls (Some v) (inr h) = no_room n ls v h

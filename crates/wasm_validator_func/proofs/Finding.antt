@@ -11,6 +11,7 @@ use Rattle.wasm_spec.proofs.LawSet as reading
 use Rattle.wasm_operators.specs.Instructions.{Instruction, instruction_at}
 use Rattle.wasm_operators.proofs.Fronts.{instruction-reads}
 use Rattle.wasm_spec_rules.specs.Attempts.{◌>>=◌}
+use Rattle.wasm_spec_rules.specs.Limits.{most_locals}
 use Rattle.wasm_operator_steps.specs.Bodies.{Local, Surroundings}
 use Rattle.wasm_operator_steps.specs.Machine.{Frame, State}
 use Rattle.wasm_operator_steps.specs.Steps.{step_in, steps_in, is_open, is_finished}
@@ -45,16 +46,16 @@ module _ {R : Type 0} (F : Features) (types : List R) where
     content : Val R
     typed : type_of F types d.content ≡ Some content
     is : ks ≡ ls ++ of_declaration d content
-    few : length ls + d.count ≤ 50000
+    few : length ls + d.count ≤ most_locals
 
-  more_if : (d : Declaration) (ls ks : List (Local R)) (v : Val R) (b : Bool) → leb (length ls + d.count) 50000 ≡ b → type_of F types d.content ≡ Some v
+  more_if : (d : Declaration) (ls ks : List (Local R)) (v : Val R) (b : Bool) → leb (length ls + d.count) most_locals ≡ b → type_of F types d.content ≡ Some v
       → (if b then Some (ls ++ of_declaration d v) else None) ≡ Some ks → More d ls ks
-  more_if d ls ks v true b e f = record { content = v; typed = e; is = sym (ap (value_or ks) f); few = leb-true (length ls + d.count) 50000 b }
+  more_if d ls ks v true b e f = record { content = v; typed = e; is = sym (ap (value_or ks) f); few = leb-true (length ls + d.count) most_locals b }
   more_if d ls ks v false b e f = absurd cc
 
   more_by : (d : Declaration) (ls ks : List (Local R)) (o : Option (Val R)) → type_of F types d.content ≡ o → more_of d.count ls o ≡ Some ks → More d ls ks
   more_by d ls ks None e f = absurd cc
-  more_by d ls ks (Some v) e f = more_if d ls ks v (leb (length ls + d.count) 50000) refl e f
+  more_by d ls ks (Some v) e f = more_if d ls ks v (leb (length ls + d.count) most_locals) refl e f
 
   count_of : (d : Declaration) (ls ks : List (Local R)) (v : Val R) → ks ≡ ls ++ of_declaration d v → length ks ≡ length ls + d.count
   count_of d ls ks v e = ap length e ∙ length-append ls (of_declaration d v) ∙ ap (λ k. length ls + k) (length-replicate d.count (local_declared v))
@@ -65,7 +66,7 @@ module _ {R : Type 0} (F : Features) (types : List R) where
     read : many_at declaration_at n bytes ≡ Some (declarations, more)
     declared : declared_locals F types declarations ≡ Some locals
     all : ks ≡ ls ++ locals
-    few : length ls ≤ 50000 → length ks ≤ 50000
+    few : length ls ≤ most_locals → length ks ≤ most_locals
 
   abbrev with_item : Declaration → Option (List Declaration × List ℕ) → Option (List Declaration × List ℕ)
   with_item d o = option_map (λ xs. (d ∷ xs.0, xs.1)) o
@@ -102,7 +103,7 @@ module _ {R : Type 0} (F : Features) (types : List R) where
         read = ap (λ b. Some ([], b)) (ap (second_or bytes) e);
         declared = refl;
         all = sym same ∙ sym (none_after ls);
-        few = λ h. subst (λ k. length k ≤ 50000) same h;
+        few = λ h. subst (λ k. length k ≤ most_locals) same h;
       }
 
   found_more : (n : ℕ) → Finds n → (d : Declaration) (ls ks : List (Local R)) (bytes next more : List ℕ) (o : Option (List (Local R))) → declaration_at bytes ≡ Some (d, next)
@@ -121,7 +122,7 @@ module _ {R : Type 0} (F : Features) (types : List R) where
 
   abbrev Reaches : ℕ → Type 0
   Reaches n = (ds : List Declaration) (xs ls : List (Local R)) (bytes more : List ℕ) → many_at declaration_at n bytes ≡ Some (ds, more) → declared_locals F types ds ≡ Some xs
-      → length (ls ++ xs) ≤ 50000 → declared_from F types n ls bytes ≡ Some (ls ++ xs, more)
+      → length (ls ++ xs) ≤ most_locals → declared_from F types n ls bytes ≡ Some (ls ++ xs, more)
 
   reached_none : (ds : List Declaration) (xs ls : List (Local R)) (bytes more : List ℕ) → many_at declaration_at 0 bytes ≡ Some (ds, more) → declared_locals F types ds ≡ Some xs
       → declared_from F types 0 ls bytes ≡ Some (ls ++ xs, more)
@@ -136,20 +137,20 @@ module _ {R : Type 0} (F : Features) (types : List R) where
       length-append ls xs ∙ ap (λ k. length ls + k) (sym (ap length e) ∙ length-append (of_declaration d v) ws ∙ ap (λ k. k + length ws) (length-replicate d.count (local_declared v)))
 
   reached_one : (n : ℕ) → Reaches n → (d : Declaration) (ds : List Declaration) (v : Val R) (ls ws xs : List (Local R)) (bytes next more : List ℕ) → declaration_at bytes ≡ Some (d, next)
-      → many_at declaration_at n next ≡ Some (ds, more) → type_of F types d.content ≡ Some v → declared_locals F types ds ≡ Some ws → of_declaration d v ++ ws ≡ xs → length (ls ++ xs) ≤ 50000
+      → many_at declaration_at n next ≡ Some (ds, more) → type_of F types d.content ≡ Some v → declared_locals F types ds ≡ Some ws → of_declaration d v ++ ws ≡ xs → length (ls ++ xs) ≤ most_locals
       → declared_from F types (suc n) ls bytes ≡ Some (ls ++ xs, more)
   reached_one n reaches d ds v ls ws xs bytes next more e f g h k few =
       let size = sizes d v ls ws xs k in
       let regroup : (ls ++ of_declaration d v) ++ ws ≡ ls ++ xs = append_assoc ls (of_declaration d v) ws ∙ ap (λ us. ls ++ us) k in
-      let enough : length ls + d.count ≤ 50000 = omega (arith, size, few) in
-      let fits : length ((ls ++ of_declaration d v) ++ ws) ≤ 50000 = subst (λ us. length us ≤ 50000) (sym regroup) few in
+      let enough : length ls + d.count ≤ most_locals = omega (arith, size, few) in
+      let fits : length ((ls ++ of_declaration d v) ++ ws) ≤ most_locals = subst (λ us. length us ≤ most_locals) (sym regroup) few in
       let made : more_locals F types d ls ≡ Some (ls ++ of_declaration d v) = ap (more_of d.count ls) g ∙ room d.count ls v enough in
       then_more F types n ls bytes next d (Some (ls ++ of_declaration d v)) e made
       ∙ reaches ds ws (ls ++ of_declaration d v) next more f h fits
       ∙ ap (λ us. Some (us, more)) regroup
 
   reached_typed : (n : ℕ) → Reaches n → (d : Declaration) (ds : List Declaration) (ls xs : List (Local R)) (bytes next more : List ℕ) (o : Option (Val R)) (p : Option (List (Local R))) → declaration_at bytes ≡ Some (d, next)
-      → many_at declaration_at n next ≡ Some (ds, more) → type_of F types d.content ≡ o → declared_locals F types ds ≡ p → option_and_then (λ v. with_locals_of d v p) o ≡ Some xs → length (ls ++ xs) ≤ 50000
+      → many_at declaration_at n next ≡ Some (ds, more) → type_of F types d.content ≡ o → declared_locals F types ds ≡ p → option_and_then (λ v. with_locals_of d v p) o ≡ Some xs → length (ls ++ xs) ≤ most_locals
       → declared_from F types (suc n) ls bytes ≡ Some (ls ++ xs, more)
   reached_typed n reaches d ds ls xs bytes next more None p e f g h k few = absurd cc
   reached_typed n reaches d ds ls xs bytes next more (Some v) None e f g h k few = absurd cc
@@ -157,7 +158,7 @@ module _ {R : Type 0} (F : Features) (types : List R) where
       reached_one n reaches d ds v ls ws xs bytes next more e f g h (ap (value_or xs) k) few
 
   reached_items : (n : ℕ) → Reaches n → (d : Declaration) (ds : List Declaration) (ls xs : List (Local R)) (bytes next more : List ℕ) (o : Option (List Declaration × List ℕ)) → declaration_at bytes ≡ Some (d, next)
-      → many_at declaration_at n next ≡ o → with_item d o ≡ Some (ds, more) → declared_locals F types ds ≡ Some xs → length (ls ++ xs) ≤ 50000 → declared_from F types (suc n) ls bytes ≡ Some (ls ++ xs, more)
+      → many_at declaration_at n next ≡ o → with_item d o ≡ Some (ds, more) → declared_locals F types ds ≡ Some xs → length (ls ++ xs) ≤ most_locals → declared_from F types (suc n) ls bytes ≡ Some (ls ++ xs, more)
   reached_items n reaches d ds ls xs bytes next more None e f g h few = absurd cc
   reached_items n reaches d ds ls xs bytes next more (Some y) e f g h few =
       let same : ds ≡ d ∷ y.0 = sym (ap (first_or ds) g) in
@@ -166,7 +167,7 @@ module _ {R : Type 0} (F : Features) (types : List R) where
       (subst (λ us. declared_locals F types us ≡ Some xs) same h) few
 
   reached_read : (n : ℕ) → Reaches n → (ds : List Declaration) (ls xs : List (Local R)) (bytes more : List ℕ) (o : Option (Declaration × List ℕ)) → declaration_at bytes ≡ o
-      → items_behind n o ≡ Some (ds, more) → declared_locals F types ds ≡ Some xs → length (ls ++ xs) ≤ 50000 → declared_from F types (suc n) ls bytes ≡ Some (ls ++ xs, more)
+      → items_behind n o ≡ Some (ds, more) → declared_locals F types ds ≡ Some xs → length (ls ++ xs) ≤ most_locals → declared_from F types (suc n) ls bytes ≡ Some (ls ++ xs, more)
   reached_read n reaches ds ls xs bytes more None e f h few = absurd cc
   reached_read n reaches ds ls xs bytes more (Some d) e f h few = reached_items n reaches d.0 ds ls xs bytes d.1 more (many_at declaration_at n d.1) e refl f h few
 
@@ -181,7 +182,7 @@ module _ {R : Type 0} (F : Features) (types : List R) where
     listed : list_at declaration_at bytes ≡ Some (declarations, more)
     declared : declared_locals F types declarations ≡ Some locals
     all : ks ≡ ls ++ locals
-    few : length ls ≤ 50000 → length ks ≤ 50000
+    few : length ls ≤ most_locals → length ks ≤ most_locals
 
   abbrev counted_items : Option (ℕ × List ℕ) → Option (List Declaration × List ℕ)
   counted_items o = option_and_then (λ n. many_at declaration_at n.0 n.1) o
@@ -200,11 +201,11 @@ module _ {R : Type 0} (F : Features) (types : List R) where
   listed ls ks bytes more e = listed_by ls ks bytes more (u32_at bytes) refl e
 
   reached_list_by : (ds : List Declaration) (xs ls : List (Local R)) (bytes more : List ℕ) (o : Option (ℕ × List ℕ)) → u32_at bytes ≡ o → counted_items o ≡ Some (ds, more)
-      → declared_locals F types ds ≡ Some xs → length (ls ++ xs) ≤ 50000 → counted_locals ls (u32_at bytes) ≡ Some (ls ++ xs, more)
+      → declared_locals F types ds ≡ Some xs → length (ls ++ xs) ≤ most_locals → counted_locals ls (u32_at bytes) ≡ Some (ls ++ xs, more)
   reached_list_by ds xs ls bytes more None e f h few = absurd cc
   reached_list_by ds xs ls bytes more (Some n) e f h few = ap (counted_locals ls) e ∙ reached_by n.0 ds xs ls n.1 more f h few
 
-  reached_list : (ds : List Declaration) (xs ls : List (Local R)) (bytes more : List ℕ) → list_at declaration_at bytes ≡ Some (ds, more) → declared_locals F types ds ≡ Some xs → length (ls ++ xs) ≤ 50000
+  reached_list : (ds : List Declaration) (xs ls : List (Local R)) (bytes more : List ℕ) → list_at declaration_at bytes ≡ Some (ds, more) → declared_locals F types ds ≡ Some xs → length (ls ++ xs) ≤ most_locals
       → locals_from F types ls bytes ≡ Some (ls ++ xs, more)
   unfolding locals_from
   reached_list ds xs ls bytes more e f few = reached_list_by ds xs ls bytes more (u32_at bytes) refl e f few
@@ -306,7 +307,7 @@ module _ {R : Type 0} (W : World R) (B : Surroundings R) where
   abbrev kept_if : Bool → List (Local R) → State R → Option (List (Local R) × State R)
   kept_if b ls u = if b then Some (ls, u) else None
 
-  body_of : (s t : State R) (bytes behind more : List ℕ) (ls : List (Local R)) → length B.locals ≤ 50000 → Listed B.features B.context.types B.locals ls bytes behind
+  body_of : (s t : State R) (bytes behind more : List ℕ) (ls : List (Local R)) → length B.locals ≤ most_locals → Listed B.features B.context.types B.locals ls bytes behind
       → Typed W (with_locals B ls) s behind t more → more ≡ [] → IsBody W B s bytes ls t
   body_of s t bytes behind more ls h x y e =
       record {
@@ -323,7 +324,7 @@ module _ {R : Type 0} (W : World R) (B : Surroundings R) where
         finished = y.finished;
       }
 
-  read_by : (s t u : State R) (bytes behind more : List ℕ) (ls ks : List (Local R)) (b : Bool) → (length more == 0) ≡ b → length B.locals ≤ 50000 → Listed B.features B.context.types B.locals ks bytes behind
+  read_by : (s t u : State R) (bytes behind more : List ℕ) (ls ks : List (Local R)) (b : Bool) → (length more == 0) ≡ b → length B.locals ≤ most_locals → Listed B.features B.context.types B.locals ks bytes behind
       → Typed W (with_locals B ks) s behind u more → kept_if b ks u ≡ Some (ls, t) → IsBody W B s bytes ls t
   read_by s t u bytes behind more ls ks true c h x y e =
       let same : ks ≡ ls = ap (first_or ks) e in
@@ -331,12 +332,12 @@ module _ {R : Type 0} (W : World R) (B : Surroundings R) where
       subst (λ us. IsBody W B s bytes us t) same (subst (λ v. IsBody W B s bytes ks v) state (body_of s u bytes behind more ks h x y (empty_by more (eqb-true (length more) 0 c))))
   read_by s t u bytes behind more ls ks false c h x y e = absurd cc
 
-  typed_of : (s t : State R) (bytes behind : List ℕ) (ls ks : List (Local R)) (o : Option (State R × List ℕ)) → instructions_from W (with_locals B ks) s behind ≡ o → length B.locals ≤ 50000
+  typed_of : (s t : State R) (bytes behind : List ℕ) (ls ks : List (Local R)) (o : Option (State R × List ℕ)) → instructions_from W (with_locals B ks) s behind ≡ o → length B.locals ≤ most_locals
       → Listed B.features B.context.types B.locals ks bytes behind → option_and_then (where_all_is_read ks) o ≡ Some (ls, t) → IsBody W B s bytes ls t
   typed_of s t bytes behind ls ks None e h x f = absurd cc
   typed_of s t bytes behind ls ks (Some y) e h x f = read_by s t y.0 bytes behind y.1 ls ks (length y.1 == 0) refl h x (typed W (with_locals B ks) s y.0 behind y.1 e) f
 
-  locals_by : (s t : State R) (bytes : List ℕ) (ls : List (Local R)) (o : Option (List (Local R) × List ℕ)) → locals_from B.features B.context.types B.locals bytes ≡ o → length B.locals ≤ 50000
+  locals_by : (s t : State R) (bytes : List ℕ) (ls : List (Local R)) (o : Option (List (Local R) × List ℕ)) → locals_from B.features B.context.types B.locals bytes ≡ o → length B.locals ≤ most_locals
       → instructions_behind s o ≡ Some (ls, t) → IsBody W B s bytes ls t
   locals_by s t bytes ls None e h f = absurd cc
   locals_by s t bytes ls (Some d) e h f =
@@ -349,7 +350,7 @@ module _ {R : Type 0} (W : World R) (B : Surroundings R) where
   pub are_found : BodiesAreFound W B
   unfolding body_from
   are_found s bytes ls t x =
-      let fits : length (B.locals ++ x.locals) ≤ 50000 = subst (λ us. length us ≤ 50000) x.all x.few in
+      let fits : length (B.locals ++ x.locals) ≤ most_locals = subst (λ us. length us ≤ most_locals) x.all x.few in
       let first : locals_from B.features B.context.types B.locals bytes ≡ Some (ls, x.behind) =
       reached_list B.features B.context.types x.declarations x.locals B.locals bytes x.behind x.listed x.declared fits ∙ ap (λ us. Some (us, x.behind)) (sym x.all) in
       ap (instructions_behind s) first ∙ ap (option_and_then (where_all_is_read ls)) (reached W (with_locals B ls) x.instructions s t x.behind [] x.written x.typed x.finished)

@@ -15,6 +15,7 @@ use Rattle.wasm_operators.specs.Control.{func_block}
 use Rattle.wasm_operator_steps.specs.Bodies.{Local}
 use Rattle.wasm_operator_steps.specs.Machine.{State}
 use Rattle.wasm_spec_rules.specs.Signatures.{Signature}
+use Rattle.wasm_spec_rules.specs.Limits.{most_locals}
 use Rattle.wasm_operator_steps.specs.Steps.{start}
 use Rattle.wasm_validator_resources.specs.Answers.{world, sub_in}
 use Rattle.wasm_operator_stacks.specs.Seen.{surroundings}
@@ -59,7 +60,7 @@ module _ {A : Type 0} (v : OperatorValidator A) (F : Features) (C : Context Unpa
     body = subst (λ ps. Body ps v.stacks.is_shared (start (func_block n)) ls t) (ap (value_or (locals_in v)) f) b;
   }
 
-  pub accepted : (ls : List (Local UnpackedIndex)) (t : State UnpackedIndex) → features_of v.stacks.features ≡ F → length (locals_in v) ≤ 50000 → BeginsBody v C n → body_in v C bytes ≡ Some (ls, t) → IsFunctionBody F C n bytes
+  pub accepted : (ls : List (Local UnpackedIndex)) (t : State UnpackedIndex) → features_of v.stacks.features ≡ F → length (locals_in v) ≤ most_locals → BeginsBody v C n → body_in v C bytes ≡ Some (ls, t) → IsFunctionBody F C n bytes
   accepted ls t e h b f =
       let found : IsBody (world C) (within v C) (typed_state v) bytes ls t = finds (world C) (within v C) (typed_state v) bytes ls t h f in
       let featured : Body (locals_in v) v.stacks.is_shared (typed_state v) ls t =
@@ -85,10 +86,10 @@ module _ {A : Type 0} (v : OperatorValidator A) (F : Features) (C : Context Unpa
 module _ (F : Features) (C : Context UnpackedIndex) (n : ℕ) (bytes : List ℕ) where
   none_or_too_many : (X : Type 0) (r : Refusal) → HasMore {X = X} (Err (Refused r)) (function_in C n) → IsFunctionBody F C n bytes → ⊥
   none_or_too_many X r h x =
-      let many : 50000 < length x.signature.takes = subst (λ o. HasMore {X = X} (Err (Refused r)) o) x.is_function h in
+      let many : most_locals < length x.signature.takes = subst (λ o. HasMore {X = X} (Err (Refused r)) o) x.is_function h in
       let all : length x.locals ≡ length (parameters x.signature) + length x.body.locals = ap length x.body.all ∙ length-append (parameters x.signature) x.body.locals in
       let mapped : length (parameters x.signature) ≡ length x.signature.takes = length-map x.signature.takes parameter in
-      let few : length x.locals ≤ 50000 = x.body.few in
+      let few : length x.locals ≤ most_locals = x.body.few in
       absurd (omega (arith, many, all, mapped, few))
 
   -- the answer where the start is refused
@@ -117,7 +118,7 @@ many_told X Y (operator_error.Refused f) OutOfMemory o h t = tt
 many_told X Y operator_error.OutOfMemory (Refused r) o h t = absurd t
 many_told X Y operator_error.OutOfMemory OutOfMemory o h t = tt
 
-pub many_counted : (Y : Type 0) (e : Error) (ls : List (Local UnpackedIndex)) (o : Option (Signature UnpackedIndex)) (k : ℕ) → Some ls ≡ option_map parameters o → k ≡ length ls → 50000 < k → HasMore {X = Y} (Err e) o
+pub many_counted : (Y : Type 0) (e : Error) (ls : List (Local UnpackedIndex)) (o : Option (Signature UnpackedIndex)) (k : ℕ) → Some ls ≡ option_map parameters o → k ≡ length ls → most_locals < k → HasMore {X = Y} (Err e) o
 many_counted Y (Refused r) ls None k d h l = tt
 many_counted Y (Refused r) ls (Some g) k d h l =
     let same : length ls ≡ length (parameters g) = ap (λ o. length (value_or ls o)) d in

@@ -10,11 +10,12 @@ use Rattle.wasm_operator_steps.specs.Bodies.{Local, Surroundings}
 use Rattle.wasm_operator_steps.specs.FunctionBodies.{Declaration, declaration_at, local_declared, type_of, with_locals, IsBody}
 use Rattle.wasm_operator_steps.specs.Machine.{State}
 use Rattle.wasm_operator_steps.specs.Steps.{step_in, is_finished}
+use Rattle.wasm_spec_rules.specs.Limits.{most_locals}
 
 module _ {R : Type 0} (F : Features) (types : List R) where
   -- the locals with those of one declaration more, where that isn't too many
   abbrev pub more_locals : Declaration → List (Local R) → Option (List (Local R))
-  more_locals d ls = option_and_then (λ v. if nat_le (length ls + d.count) 50000 then Some (ls ++ replicate d.count (local_declared v)) else None) (type_of F types d.content)
+  more_locals d ls = option_and_then (λ v. if nat_le (length ls + d.count) most_locals then Some (ls ++ replicate d.count (local_declared v)) else None) (type_of F types d.content)
 
   -- the locals with those of so many declarations more, and the bytes behind
   abbrev pub declared_from : ℕ → List (Local R) → List ℕ → Option (List (Local R) × List ℕ)
@@ -47,7 +48,7 @@ module _ {R : Type 0} (W : World R) (B : Surroundings R) where
 
   -- The code's way through the bytes finds just these, where there weren't too many locals before.
   abbrev pub FindsBodies : Type 0
-  FindsBodies = (s : State R) (bytes : List ℕ) (ls : List (Local R)) (t : State R) → length B.locals ≤ 50000 → body_from s bytes ≡ Some (ls, t) → IsBody W B s bytes ls t
+  FindsBodies = (s : State R) (bytes : List ℕ) (ls : List (Local R)) (t : State R) → length B.locals ≤ most_locals → body_from s bytes ≡ Some (ls, t) → IsBody W B s bytes ls t
 
   abbrev pub BodiesAreFound : Type 0
   BodiesAreFound = (s : State R) (bytes : List ℕ) (ls : List (Local R)) (t : State R) → IsBody W B s bytes ls t → body_from s bytes ≡ Some (ls, t)

@@ -3,6 +3,7 @@ use Rattle.std.specs.Prelude.{◌≡◌, ◌<◌, ◌⊎◌, ℕ, List, length, 
 use Rattle.wasm_spec.specs.Features.{Features}
 use Rattle.wasm_spec_rules.specs.Contexts.{Context}
 use Rattle.wasm_spec_rules.specs.Signatures.{Signature}
+use Rattle.wasm_spec_rules.specs.Limits.{most_locals}
 use Rattle.wasm_readers_bytes.specs.declared.binary_reader.BinaryReader.{BinaryReader}
 use Rattle.wasm_readers_errors.specs.declared.error.Error.{Error}
 use Rattle.wasm_readers_errors.specs.declared.error.Error.TheVariants.{Refused, OutOfMemory}
@@ -29,7 +30,7 @@ Decides P (Err e) = Refuses P e
 abbrev pub HasMore : {X : Type 0} → Result X Error → Option (Signature UnpackedIndex) → Type 0
 HasMore (Ok x) g = ⊤
 HasMore (Err (Refused r)) None = ⊤
-HasMore (Err (Refused r)) (Some g) = 50000 < length g.takes
+HasMore (Err (Refused r)) (Some g) = most_locals < length g.takes
 HasMore (Err OutOfMemory) g = ⊤
 
 -- a refusal at offset 0, unless memory was refused

@@ -12,6 +12,7 @@ use Rattle.wasm_spec.specs.ValueTypes.{allows_ref}
 use Rattle.wasm_spec.specs.Features.{Features}
 use Rattle.wasm_spec_rules.specs.Contexts.{Context}
 use Rattle.wasm_spec_rules.specs.Parts.{Expression, index}
+use Rattle.wasm_spec_rules.specs.Limits.{most_items}
 use Rattle.wasm_readers.specs.Written.{written}
 use Rattle.wasm_readers_types.specs.WasmReadersValues.declared.indices.UnpackedIndex.{UnpackedIndex}
 use Rattle.wasm_validator_core.specs.WasmValidatorCanonical.Indices.{canonical_index}
@@ -89,7 +90,7 @@ module _ (F : Features) (declares : List (UnpackedIndex × Sub UnpackedIndex)) (
   functions_typed t bytes =
       ap (λ (o : Option (List ℕ)). if may_go C t (reference ref_func) then option_map (with_more (reference ref_func)) o else None)
       (list_is (behind_function C) u32_at (λ x. nat_lt x (length s.functions)) function_is bytes)
-      ∙ tested_items (may_go C t (reference ref_func)) (λ xs. list_all (λ x. nat_lt x (length s.functions)) xs && nat_le (length xs) 10000000) (reference ref_func) (list_at u32_at bytes)
+      ∙ tested_items (may_go C t (reference ref_func)) (λ xs. list_all (λ x. nat_lt x (length s.functions)) xs && nat_le (length xs) most_items) (reference ref_func) (list_at u32_at bytes)
       ∙ sym (then_mapped (λ (i : Items × List ℕ). if are_items F declares s i.0 && may_go C t (type_of i.0) then Some (type_of i.0, i.1) else None) (λ (xs : List ℕ × List ℕ). (functions xs.0, xs.1)) (list_at u32_at bytes))
 
   -- behind their kind
@@ -116,16 +117,16 @@ module _ (F : Features) (declares : List (UnpackedIndex × Sub UnpackedIndex)) (
   typed t v = if may_go C t v.0 then option_map (with_more v.0) (behind_list (behind_expression C F s.imported_globals v.0) v.1) else None
 
   list_typed : (t : Option ℕ) (v : Val UnpackedIndex) (bytes : List ℕ)
-      → typed t (v, bytes) ≡ option_and_then (λ es. if (list_all (is_constant_of F declares s v) es.0 && nat_le (length es.0) 10000000) && may_go C t v then Some (v, es.1) else None) (list_at expression_at bytes)
+      → typed t (v, bytes) ≡ option_and_then (λ es. if (list_all (is_constant_of F declares s v) es.0 && nat_le (length es.0) most_items) && may_go C t v then Some (v, es.1) else None) (list_at expression_at bytes)
   list_typed t v bytes =
       ap (λ (o : Option (List ℕ)). if may_go C t v then option_map (with_more v) o else None)
       (list_is (behind_expression C F s.imported_globals v) expression_at (is_constant_of F declares s v) (expression_is F declares s v) bytes)
-      ∙ tested_items (may_go C t v) (λ es. list_all (is_constant_of F declares s v) es && nat_le (length es) 10000000) v (list_at expression_at bytes)
+      ∙ tested_items (may_go C t v) (λ es. list_all (is_constant_of F declares s v) es && nat_le (length es) most_items) v (list_at expression_at bytes)
 
   -- where the type is allowed and there
   where_typed : (allowed has : Bool) (t : Option ℕ) (v : Val UnpackedIndex) (bytes : List ℕ)
       → option_and_then (typed t) (option_map (λ w. (w, bytes)) (if allowed && has then Some v else None))
-      ≡ option_and_then (λ es. if (allowed && has && list_all (is_constant_of F declares s v) es.0 && nat_le (length es.0) 10000000) && may_go C t v then Some (v, es.1) else None) (list_at expression_at bytes)
+      ≡ option_and_then (λ es. if (allowed && has && list_all (is_constant_of F declares s v) es.0 && nat_le (length es.0) most_items) && may_go C t v then Some (v, es.1) else None) (list_at expression_at bytes)
   where_typed true true t v bytes = list_typed t v bytes
   where_typed true false t v bytes = sym (always_none (λ (es : List Expression × List ℕ). if false then Some (v, es.1) else None) (λ es. refl) (list_at expression_at bytes))
   where_typed false has t v bytes = sym (always_none (λ (es : List Expression × List ℕ). if false then Some (v, es.1) else None) (λ es. refl) (list_at expression_at bytes))

@@ -7,6 +7,7 @@ use Rattle.wasm_spec.specs.Values.{u32_at, many_at, list_at}
 use Rattle.wasm_spec_rules.proofs.Tests.{then_some, map_some}
 use Rattle.wasm_validator_segments.specs.Lists.{behind_many, behind_list}
 use Rattle.wasm_validator_items.proofs.Attempts.{behind_where, always_none, then_mapped, then_then, then_same}
+use Rattle.wasm_spec_rules.specs.Limits.{most_items}
 
 -- lists of as many items as their count says
 many_are : {V : Type 0} (reads : List ℕ → Option (V × List ℕ)) (n : ℕ) (bytes : List ℕ) (x : List V × List ℕ) → many_at reads n bytes ≡ Some x → length x.0 ≡ n
@@ -42,7 +43,7 @@ module _ {V : Type 0} (behind : List ℕ → Option (List ℕ)) (reads : List �
 
   -- within the limit
   abbrev few_pass : List V → Bool
-  few_pass xs = list_all test xs && nat_le (length xs) 10000000
+  few_pass xs = list_all test xs && nat_le (length xs) most_items
 
   both : (few all : Bool) (more : List ℕ) → (if few then (if all then Some more else None) else None) ≡ (if all && few then Some more else None)
   both true true more = refl
@@ -57,15 +58,15 @@ module _ {V : Type 0} (behind : List ℕ → Option (List ℕ)) (reads : List �
   nothing true = refl
   nothing false = refl
 
-  counted : (n : ℕ) (bytes : List ℕ) (o : Option (List V × List ℕ)) → many_at reads n bytes ≡ o → (if nat_le n 10000000 then behind_where all_pass o else None) ≡ behind_where few_pass o
-  counted n bytes None e = nothing (nat_le n 10000000)
+  counted : (n : ℕ) (bytes : List ℕ) (o : Option (List V × List ℕ)) → many_at reads n bytes ≡ o → (if nat_le n most_items then behind_where all_pass o else None) ≡ behind_where few_pass o
+  counted n bytes None e = nothing (nat_le n most_items)
   counted n bytes (Some xs) e =
-      ap (λ (m : ℕ). if nat_le m 10000000 then (if all_pass xs.0 then Some xs.1 else None) else None) (sym (many_are reads n bytes xs e)) ∙ both (nat_le (length xs.0) 10000000) (all_pass xs.0) xs.1
+      ap (λ (m : ℕ). if nat_le m most_items then (if all_pass xs.0 then Some xs.1 else None) else None) (sym (many_are reads n bytes xs e)) ∙ both (nat_le (length xs.0) most_items) (all_pass xs.0) xs.1
 
-  few : (n : ℕ) (bytes : List ℕ) → (if nat_le n 10000000 then behind_many behind n bytes else None) ≡ behind_where few_pass (many_at reads n bytes)
-  few n bytes = ap (λ (o : Option (List ℕ)). if nat_le n 10000000 then o else None) (many_pass n bytes) ∙ counted n bytes (many_at reads n bytes) refl
+  few : (n : ℕ) (bytes : List ℕ) → (if nat_le n most_items then behind_many behind n bytes else None) ≡ behind_where few_pass (many_at reads n bytes)
+  few n bytes = ap (λ (o : Option (List ℕ)). if nat_le n most_items then o else None) (many_pass n bytes) ∙ counted n bytes (many_at reads n bytes) refl
 
   pub list_is : (bytes : List ℕ) → behind_list behind bytes ≡ behind_where few_pass (list_at reads bytes)
   list_is bytes =
-      then_same (λ (n : ℕ × List ℕ). if nat_le n.0 10000000 then behind_many behind n.0 n.1 else None) (λ n. behind_where few_pass (many_at reads n.0 n.1)) (λ n. few n.0 n.1) (u32_at bytes)
+      then_same (λ (n : ℕ × List ℕ). if nat_le n.0 most_items then behind_many behind n.0 n.1 else None) (λ n. behind_where few_pass (many_at reads n.0 n.1)) (λ n. few n.0 n.1) (u32_at bytes)
       ∙ sym (then_then (λ (xs : List V × List ℕ). if few_pass xs.0 then Some xs.1 else None) (λ (n : ℕ × List ℕ). many_at reads n.0 n.1) (u32_at bytes))

@@ -11,6 +11,7 @@ use Rattle.wasm_spec.specs.Features.{Features}
 use Rattle.wasm_spec_rules.specs.Attempts.{passes}
 use Rattle.wasm_spec_rules.specs.Parts.{Expression}
 use Rattle.wasm_spec_rules.specs.SegmentRules.{index_or_first}
+use Rattle.wasm_spec_rules.specs.Limits.{most_items}
 use Rattle.wasm_readers_types.specs.WasmReadersValues.declared.indices.UnpackedIndex.{UnpackedIndex}
 use Rattle.wasm_validator_core.specs.WasmValidatorCanonical.Indices.{canonical_index}
 use Rattle.wasm_validator_core.specs.WasmValidatorChecks.Items.{is_ref_in_range, is_valid_defined_table, is_valid_global}
@@ -65,9 +66,9 @@ module _ (F : Features) (declares : List (UnpackedIndex × Sub UnpackedIndex)) w
 
   -- functions that are there, or expressions of a type that the features allow and the module has
   abbrev pub are_items : Spaces → ElementItems Expression UnpackedIndex → Bool
-  are_items s (functions xs) = list_all (λ x. nat_lt x (length s.functions)) xs && nat_le (length xs) 10000000
+  are_items s (functions xs) = list_all (λ x. nat_lt x (length s.functions)) xs && nat_le (length xs) most_items
   are_items s (expressions r es) =
-      allows_ref F r && is_ref_in_range (length s.types) r && list_all (is_constant_of s (reference (map_ref (canonical_index s.types) r))) es && nat_le (length es) 10000000
+      allows_ref F r && is_ref_in_range (length s.types) r && list_all (is_constant_of s (reference (map_ref (canonical_index s.types) r))) es && nat_le (length es) most_items
 
   -- where items of this type may go: to no table with bulk memory, or to a table that may hold them, from an offset on
   abbrev pub may_be_placed : Spaces → Ref UnpackedIndex → SegmentMode Expression → Bool

@@ -10,6 +10,7 @@ use Rattle.wasm_spec.specs.Features.{Features}
 use Rattle.wasm_spec.specs.TypeExamples.{features}
 use Rattle.wasm_spec_rules.specs.Attempts.{passes}
 use Rattle.wasm_spec_rules.specs.Contexts.{Context}
+use Rattle.wasm_spec_rules.specs.Limits.{most_items}
 use Rattle.wasm_readers_types.specs.WasmReadersValues.declared.indices.UnpackedIndex.{UnpackedIndex}
 use Rattle.wasm_validator_resources.specs.Answers.{world}
 use Rattle.wasm_validator_segments.specs.Expressions.{behind_expression}
@@ -36,10 +37,10 @@ module _ (C : Context UnpackedIndex) (first second third : List ℕ) (count : �
   abbrev indices : Option (List ℕ)
   indices = behind_many (behind_function C) count third
 
-  list_is : u32_at second ≡ Some (count, third) → count ≤ 10000000 → behind_list (behind_function C) second ≡ indices
+  list_is : u32_at second ≡ Some (count, third) → count ≤ most_items → behind_list (behind_function C) second ≡ indices
   list_is f few =
-      ap (λ (o : Option (ℕ × List ℕ)). option_and_then (λ n. if nat_le n.0 10000000 then behind_many (behind_function C) n.0 n.1 else None) o) f
-      ∙ ap (λ (b : Bool). if b then behind_many (behind_function C) count third else None) (le-leb count 10000000 few)
+      ap (λ (o : Option (ℕ × List ℕ)). option_and_then (λ n. if nat_le n.0 most_items then behind_many (behind_function C) n.0 n.1 else None) o) f
+      ∙ ap (λ (b : Bool). if b then behind_many (behind_function C) count third else None) (le-leb count most_items few)
 
   module _ (t : TakesFunctions C) where
     goes : may_go C (Some 0) functions ≡ true
@@ -70,7 +71,7 @@ module _ (C : Context UnpackedIndex) (first second third : List ℕ) (count : �
           ∙ items_are l
 
       -- what it names
-      names_are : IsAnywhere i32 first second → names_of_expression first ≡ [] → u32_at second ≡ Some (count, third) → count ≤ 10000000 → (more : List ℕ) → indices ≡ Some more
+      names_are : IsAnywhere i32 first second → names_of_expression first ≡ [] → u32_at second ≡ Some (count, third) → count ≤ most_items → (more : List ℕ) → indices ≡ Some more
           → names_of_element_from 0 first ≡ names_of_functions count third
       names_are a n f few more e =
           are_named C F imported (Some 0) functions first second second more 0 (omega arith) (table_is a) refl (list_is f few ∙ e)
@@ -78,7 +79,7 @@ module _ (C : Context UnpackedIndex) (first second third : List ℕ) (count : �
           ∙ ap (λ (o : Option (ℕ × List ℕ)). elim o [ None ↦ [] | Some x ↦ names_of_functions x.0 x.1 ]) f
 
 module _ (C : Context UnpackedIndex) (flag count : ℕ) (bytes first second third : List ℕ) where
-  is_typed : u32_at bytes ≡ Some (flag, first) → flag ≡ 0 → IsAnywhere i32 first second → u32_at second ≡ Some (count, third) → count ≤ 10000000
+  is_typed : u32_at bytes ≡ Some (flag, first) → flag ≡ 0 → IsAnywhere i32 first second → u32_at second ≡ Some (count, third) → count ≤ most_items
       → TakesFunctions C → (F : Features) (imported : ℕ) → typed_element_at C F imported bytes ≡ followed C first second third count (indices C first second third count)
   unfolding typed_element_at
   is_typed e z a f few t F imported =
@@ -86,7 +87,7 @@ module _ (C : Context UnpackedIndex) (flag count : ℕ) (bytes first second thir
       ∙ ap (λ (k : ℕ). typed_element_from C F imported k first) z
       ∙ segment_is C first second third count t F imported a (list_is C first second third count f few)
 
-  pub plain : u32_at bytes ≡ Some (flag, first) → flag ≡ 0 → IsAnywhere i32 first second → names_of_expression first ≡ [] → u32_at second ≡ Some (count, third) → count ≤ 10000000
+  pub plain : u32_at bytes ≡ Some (flag, first) → flag ≡ 0 → IsAnywhere i32 first second → names_of_expression first ≡ [] → u32_at second ≡ Some (count, third) → count ≤ most_items
       → TakesFunctions C → IsPlain C count bytes third
   plain e z a n f few t = record {
     typed = is_typed e z a f few t;

@@ -9,6 +9,7 @@ use Rattle.wasm_spec.specs.BinarySections.{GlobalEntry, global_entry_at}
 use Rattle.wasm_spec.specs.Features.{Features}
 use Rattle.wasm_spec_rules.specs.Contexts.{Context}
 use Rattle.wasm_spec_rules.specs.Parts.{Expression}
+use Rattle.wasm_spec_rules.specs.Limits.{most_items}
 use Rattle.wasm_readers.specs.Written.{written}
 use Rattle.wasm_readers_types.specs.WasmReadersValues.declared.indices.UnpackedIndex.{UnpackedIndex}
 use Rattle.wasm_validator_resources.specs.Answers.{world, val_in}
@@ -79,8 +80,8 @@ module _ {V : Type 0} (behind : List ℕ → Option (List ℕ)) (reads : List �
     pub list_read : (bytes more : List ℕ) → behind_list behind bytes ≡ Some more
         → (xs : List V) × (list_at reads bytes ≡ Some (xs, more)) × (names_of_list (names_along reads names) bytes ≡ flat_map names xs)
     list_read bytes more e =
-        let a = then_gives (λ (n : ℕ × List ℕ). if nat_le n.0 10000000 then behind_many behind n.0 n.1 else None) (u32_at bytes) more e in
-        let xs = many_read a.0.0 a.0.1 more (within (nat_le a.0.0 10000000) (behind_many behind a.0.0 a.0.1) more a.2) in (
+        let a = then_gives (λ (n : ℕ × List ℕ). if nat_le n.0 most_items then behind_many behind n.0 n.1 else None) (u32_at bytes) more e in
+        let xs = many_read a.0.0 a.0.1 more (within (nat_le a.0.0 most_items) (behind_many behind a.0.0 a.0.1) more a.2) in (
           xs.0,
           ap (option_and_then (λ (n : ℕ × List ℕ). many_at reads n.0 n.1)) a.1 ∙ xs.1,
           ap (λ (o : Option (ℕ × List ℕ)). elim o [ None ↦ [] | Some n ↦ names_along reads names n.0 n.1 ]) a.1 ∙ many_named reads names a.0.0 a.0.1 xs.0 more xs.1,

@@ -13,7 +13,7 @@ use Rattle.wasm_spec.specs.Features.{Features, canonical}
 use Rattle.wasm_spec.specs.Trees.{DefType}
 use Rattle.wasm_spec.proofs.SyntaxMaps.{map_ref-map, map_val-map, map_table-map, map_global-map}
 use Rattle.wasm_spec_rules.specs.FeatureFlags.{features_of}
-use Rattle.wasm_spec_rules.specs.Limits.{most_tables}
+use Rattle.wasm_spec_rules.specs.Limits.{most_tables, most_globals, most_elements, most_segments}
 use Rattle.wasm_spec_rules.specs.Parts.{Expression, index}
 use Rattle.wasm_spec_rules.specs.Sections.{each}
 use Rattle.wasm_spec_rules.specs.SegmentRules.{items_type}
@@ -120,7 +120,7 @@ module _ (F : Features) (us : TypesSoFar) (ids : List ℕ) (types : List DefType
   TableRoom s n = (s.types ≡ ids) × (length s.tables + n ≤ most_tables F)
 
   abbrev GlobalRoom : Spaces → ℕ → Type 0
-  GlobalRoom s n = (s.types ≡ ids) × (length s.globals + n ≤ 1000000)
+  GlobalRoom s n = (s.types ≡ ids) × (length s.globals + n ≤ most_globals)
 
   stands : (s : Spaces) → s.types ≡ ids → Stand (canonical F) us s.types types
   stands s e = subst (λ (is : List ℕ). Stand (canonical F) us is types) (sym e) stand
@@ -163,8 +163,8 @@ module _ (F : Features) (us : TypesSoFar) (ids : List ℕ) (types : List DefType
         cond (valid_global s g && is_constant_of F (types_declare us us) s (map_val-map (canonical_index s.types) written g.ty.content i) g.init)
         (with_global s (map_global-map (canonical_index s.types) written g.ty i)) None;
     decided = λ s g n k. Decides-and (valid_global s g) (typed_global s g) (globals_are_decided F (canonical F) us s.types types (stands s k.0) g.ty) (itself (typed_global s g));
-    placed = λ s g n k. when (leb (length s.globals + 1) 1000000) (Some (next_global s g)) None (has_room (length s.globals) n 1000000 k.1);
-    keeps = λ s g n k. (k.0, one_more s.globals (listed_global s.types g.ty) n 1000000 k.1);
+    placed = λ s g n k. when (leb (length s.globals + 1) most_globals) (Some (next_global s g)) None (has_room (length s.globals) n most_globals k.1);
+    keeps = λ s g n k. (k.0, one_more s.globals (listed_global s.types g.ty) n most_globals k.1);
   }
 
 -- segments have room wherever the section keeps to the limit
@@ -216,17 +216,17 @@ tables_add renamed old new us m n types count bytes r =
 pub globals_add : EntriesAreRenamed → GlobalsAdd
 globals_add renamed old new us m n types count bytes r =
     let F = features_of old.features in
-    added_section (adding_globals F us m.types types r.stand) (global_entry_at expression_at index) (global_entry_at expression_at written) renamed.globals (length m.globals) 1000000 old new us m (naming (names_of_globals count bytes) n) count bytes (λ n few. (refl, few)) 6
+    added_section (adding_globals F us m.types types r.stand) (global_entry_at expression_at index) (global_entry_at expression_at written) renamed.globals (length m.globals) most_globals old new us m (naming (names_of_globals count bytes) n) count bytes (λ n few. (refl, few)) 6
     (at_module old us m n 6 count bytes r.stage)
 
 pub elements_add : EntriesAreRenamed → ElementsAdd
 elements_add renamed old new us m n types count bytes r =
     let F = features_of old.features in
-    added_section (adding_elements F us) (element_at expression_at index) (element_at expression_at written) renamed.elements (length m.elements) 100000 old new us m (naming (names_of_elements count bytes) n) count bytes (λ n few. tt) 9
+    added_section (adding_elements F us) (element_at expression_at index) (element_at expression_at written) renamed.elements (length m.elements) most_elements old new us m (naming (names_of_elements count bytes) n) count bytes (λ n few. tt) 9
     (at_module old us m n 9 count bytes r.stage)
 
 pub segments_add : EntriesAreRenamed → SegmentsAdd
 segments_add _ old new us m n types count bytes r =
     let F = features_of old.features in
-    added_section (adding_segments F us) (data_at expression_at) (data_at expression_at) (renames_nothing (data_at expression_at)) 0 100000 old new us m n count bytes (λ n few. tt) 11
+    added_section (adding_segments F us) (data_at expression_at) (data_at expression_at) (renames_nothing (data_at expression_at)) 0 most_segments old new us m n count bytes (λ n few. tt) 11
     (at_module old us m n 11 count bytes r.stage)

@@ -12,6 +12,7 @@ use Rattle.wasm_spec_rules.specs.FeatureFlags.{features_of}
 use Rattle.wasm_spec_rules.specs.IndexSpaces.{functions_in, tables_in, memories_in, globals_in, tags_in}
 use Rattle.wasm_spec_rules.specs.Parts.{index}
 use Rattle.wasm_spec_rules.specs.Sections.{each}
+use Rattle.wasm_spec_rules.specs.Limits.{most_imports}
 use Rattle.wasm_spec_rules.proofs.Tests.{then_some, guarded}
 use Rattle.wasm_readers.specs.Written.{written}
 use Rattle.wasm_validator_sections.specs.WasmValidatorChecks.Laws.{Stand}
@@ -76,15 +77,15 @@ pub imports_add : ImportsAdd
 imports_add old new us m n types count bytes r few =
     let F = features_of old.features in
     let reads = import_at index in
-    let section = read_section (import_at written) (add_import F us) (length m.imports) 1000000 count bytes m in
-    let entries = section_entries (add_import F us) (map_import written) (length m.imports) 1000000 m reads (import_at written) (import_renames written index) count bytes in (
+    let section = read_section (import_at written) (add_import F us) (length m.imports) most_imports count bytes m in
+    let entries = section_entries (add_import F us) (map_import written) (length m.imports) most_imports m reads (import_at written) (import_renames written index) count bytes in (
       λ e. let a = moved_from old new us n section (sym (at_module old us m n 2 count bytes r.stage) ∙ e) in
-          let b = then_some (limited (add_import F us) (map_import written) (length m.imports) 1000000 m) (items_at reads count bytes) a.0 (sym entries ∙ a.1) in
-          let c = guarded (leb (length m.imports + length b.0) 1000000) (each (add_import F us) m (map (map_import written) b.0)) a.0 b.2 in
+          let b = then_some (limited (add_import F us) (map_import written) (length m.imports) most_imports m) (items_at reads count bytes) a.0 (sym entries ∙ a.1) in
+          let c = guarded (leb (length m.imports + length b.0) most_imports) (each (add_import F us) m (map (map_import written) b.0)) a.0 b.2 in
           record {
             items = b.0;
             read = b.1;
-            few = leb-true (length m.imports + length b.0) 1000000 c.0;
+            few = leb-true (length m.imports + length b.0) most_imports c.0;
             lists = a.0;
             added = each_fits F us m.types types r.stand b.0 m a.0 refl few (sym (each_changed (add_import F us) (map_import written) m b.0) ∙ c.1);
             after = a.2;
@@ -92,8 +93,8 @@ imports_add old new us m n types count bytes r few =
       λ h. at_module old us m n 2 count bytes r.stage
           ∙ moved_to old new us n section h.lists
           (entries
-          ∙ ap (option_and_then (limited (add_import F us) (map_import written) (length m.imports) 1000000 m)) h.read
-          ∙ ap (λ b. cond b (each (add_import F us) m (map (map_import written) h.items)) None) (le-leb (length m.imports + length h.items) 1000000 h.few)
+          ∙ ap (option_and_then (limited (add_import F us) (map_import written) (length m.imports) most_imports m)) h.read
+          ∙ ap (λ b. cond b (each (add_import F us) m (map (map_import written) h.items)) None) (le-leb (length m.imports + length h.items) most_imports h.few)
           ∙ each_changed (add_import F us) (map_import written) m h.items
           ∙ fits_each F us m.types types r.stand h.items m h.lists refl few h.added)
           h.after,

@@ -13,7 +13,7 @@ use Rattle.wasm_spec_rules.specs.FeatureFlags.{features_of}
 use Rattle.wasm_spec_rules.specs.Sections.{each}
 use Rattle.wasm_spec_rules.specs.IndexSpaces.{IsFunctionType}
 use Rattle.wasm_spec_rules.specs.ItemRules.{IsValidMemory, IsValidTag}
-use Rattle.wasm_spec_rules.specs.Limits.{most_memories}
+use Rattle.wasm_spec_rules.specs.Limits.{most_functions, most_memories, most_tags}
 use Rattle.wasm_spec_rules.proofs.Tests.{then_some, guarded}
 use Rattle.wasm_spec_rules.proofs.Verdicts.{Verdict, verdict_some, verdict_yes}
 use Rattle.wasm_validator_canonical.specs.Groups.{types_at}
@@ -112,11 +112,11 @@ module _ (F : Features) (us : TypesSoFar) (m : Spaces) (types : List DefType) (s
   abbrev with_tags : List ℕ → Spaces
   with_tags xs = record m { tags = m.tags ++ xs }
 
-  function_step : (x : ℕ) → IsStep (IsFunctionType types) (λ t y. add_function us t (same_item y)) with_functions (length m.functions) 1000000 x
+  function_step : (x : ℕ) → IsStep (IsFunctionType types) (λ t y. add_function us t (same_item y)) with_functions (length m.functions) most_functions x
   function_step x =
       let test = is_function (types_at us m.types) x in
-      step_of (IsFunctionType types) (λ t y. add_function us t (same_item y)) with_functions (length m.functions) 1000000 x test (functions_are_decided (canonical F) us m.types types stand x)
-      (λ acc. λ i. cond test (cond (leb (length-append m.functions acc i + 1) 1000000) (Some (record m { functions = append_assoc m.functions acc (x ∷ []) i })) None) None)
+      step_of (IsFunctionType types) (λ t y. add_function us t (same_item y)) with_functions (length m.functions) most_functions x test (functions_are_decided (canonical F) us m.types types stand x)
+      (λ acc. λ i. cond test (cond (leb (length-append m.functions acc i + 1) most_functions) (Some (record m { functions = append_assoc m.functions acc (x ∷ []) i })) None) None)
 
   memory_step : (x : Memory) → IsStep (IsValidMemory F) (λ t y. add_memory F t (same_item y)) with_memories (length m.memories) (most_memories F) x
   memory_step x =
@@ -124,11 +124,11 @@ module _ (F : Features) (us : TypesSoFar) (m : Spaces) (types : List DefType) (s
       step_of (IsValidMemory F) (λ t y. add_memory F t (same_item y)) with_memories (length m.memories) (most_memories F) x test (memories_are_decided F x)
       (λ acc. λ i. cond test (cond (leb (length-append m.memories acc i + 1) (most_memories F)) (Some (record m { memories = append_assoc m.memories acc (x ∷ []) i })) None) None)
 
-  tag_step : (x : ℕ) → IsStep (IsValidTag F types) (λ t y. add_tag F us t (same_item y)) with_tags (length m.tags) 1000000 x
+  tag_step : (x : ℕ) → IsStep (IsValidTag F types) (λ t y. add_tag F us t (same_item y)) with_tags (length m.tags) most_tags x
   tag_step x =
       let test = is_valid_tag F (types_at us m.types) x in
-      step_of (IsValidTag F types) (λ t y. add_tag F us t (same_item y)) with_tags (length m.tags) 1000000 x test (tags_are_decided F (canonical F) us m.types types stand x)
-      (λ acc. λ i. cond test (cond (leb (length-append m.tags acc i + 1) 1000000) (Some (record m { tags = append_assoc m.tags acc (x ∷ []) i })) None) None)
+      step_of (IsValidTag F types) (λ t y. add_tag F us t (same_item y)) with_tags (length m.tags) most_tags x test (tags_are_decided F (canonical F) us m.types types stand x)
+      (λ acc. λ i. cond test (cond (leb (length-append m.tags acc i + 1) most_tags) (Some (record m { tags = append_assoc m.tags acc (x ∷ []) i })) None) None)
 
   no_functions : with_functions [] ≡ m
   no_functions = λ i. record m { functions = append-nil m.functions i }
@@ -144,8 +144,8 @@ functions_add old new us m n types count bytes r =
     let F = features_of old.features in
     let steps = function_step F us m types r.stand in
     let none = no_functions F us m types r.stand in (
-      λ e. added_from old new us n same_item u32_at u32_at (renames_nothing u32_at) (add_function us) (IsFunctionType types) (λ xs. record m { functions = m.functions ++ xs }) (length m.functions) 1000000 steps m none count bytes (sym (at_module old us m n 3 count bytes r.stage) ∙ e),
-      λ h. at_module old us m n 3 count bytes r.stage ∙ added_to old new us n same_item u32_at u32_at (renames_nothing u32_at) (add_function us) (IsFunctionType types) (λ xs. record m { functions = m.functions ++ xs }) (length m.functions) 1000000 steps m none count bytes h,
+      λ e. added_from old new us n same_item u32_at u32_at (renames_nothing u32_at) (add_function us) (IsFunctionType types) (λ xs. record m { functions = m.functions ++ xs }) (length m.functions) most_functions steps m none count bytes (sym (at_module old us m n 3 count bytes r.stage) ∙ e),
+      λ h. at_module old us m n 3 count bytes r.stage ∙ added_to old new us n same_item u32_at u32_at (renames_nothing u32_at) (add_function us) (IsFunctionType types) (λ xs. record m { functions = m.functions ++ xs }) (length m.functions) most_functions steps m none count bytes h,
     )
 
 pub memories_add : MemoriesAdd
@@ -167,9 +167,9 @@ tags_add old new us m n types count bytes r =
     let F = features_of old.features in
     let steps = tag_step F us m types r.stand in
     let none = no_tags F us m types r.stand in
-    let o = read_section tag_at (add_tag F us) (length m.tags) 1000000 count bytes m in (
+    let o = read_section tag_at (add_tag F us) (length m.tags) most_tags count bytes m in (
       λ e. let a = tested old new us n F.exceptions o (sym (at_module old us m n 13 count bytes r.stage) ∙ e) in
-          (a.0, added_from old new us n same_item tag_at tag_at (renames_nothing tag_at) (add_tag F us) (IsValidTag F types) (λ xs. record m { tags = m.tags ++ xs }) (length m.tags) 1000000 steps m none count bytes a.1),
+          (a.0, added_from old new us n same_item tag_at tag_at (renames_nothing tag_at) (add_tag F us) (IsValidTag F types) (λ xs. record m { tags = m.tags ++ xs }) (length m.tags) most_tags steps m none count bytes a.1),
       λ h. at_module old us m n 13 count bytes r.stage ∙ ap (λ b. moved old new us n (cond b o None)) h.0
-          ∙ added_to old new us n same_item tag_at tag_at (renames_nothing tag_at) (add_tag F us) (IsValidTag F types) (λ xs. record m { tags = m.tags ++ xs }) (length m.tags) 1000000 steps m none count bytes h.1,
+          ∙ added_to old new us n same_item tag_at tag_at (renames_nothing tag_at) (add_tag F us) (IsValidTag F types) (λ xs. record m { tags = m.tags ++ xs }) (length m.tags) most_tags steps m none count bytes h.1,
     )

@@ -15,6 +15,7 @@ use Rattle.wasm_spec.proofs.LawSet.{rec_renames}
 use Rattle.wasm_spec_rules.specs.FeatureFlags.{features_of}
 use Rattle.wasm_spec_rules.specs.Parts.{index}
 use Rattle.wasm_spec_rules.specs.Sections.{each}
+use Rattle.wasm_spec_rules.specs.Limits.{most_types}
 use Rattle.wasm_spec_rules.proofs.Tests.{then_some, guarded}
 use Rattle.wasm_readers.specs.Written.{written}
 use Rattle.wasm_readers_errors.specs.WasmReadersFeatures.declared.features.WasmFeatures.{WasmFeatures}
@@ -129,16 +130,16 @@ types_add old new us m n types count bytes r v =
     let sound : IsSound old.features m h = record { stand = r.stand; valid = subst (λ (g : Stage). HoldsAt (AreValid F) g) r.stage v } in
     let add = add_group old.features in
     let there = length m.types in
-    let entries = section_entries add (map_rec written) there 1000000 (us, m) (rec_at index) (rec_at written) (rec_renames written index) count bytes in (
+    let entries = section_entries add (map_rec written) there most_types (us, m) (rec_at index) (rec_at written) (rec_renames written index) count bytes in (
       λ e. let a = within_some old new us m n (naming []) (λ p. type_items old.features count bytes p) (sym (at_module old us m n 1 count bytes r.stage) ∙ e.0) in
-          let b = then_some (limited add (map_rec written) there 1000000 (us, m)) (items_at (rec_at index) count bytes) a.0 (sym entries ∙ a.1) in
-          let c = guarded (leb (there + length b.0) 1000000) (each add (us, m) (map (map_rec written) b.0)) a.0 b.2 in
+          let b = then_some (limited add (map_rec written) there most_types (us, m)) (items_at (rec_at index) count bytes) a.0 (sym entries ∙ a.1) in
+          let c = guarded (leb (there + length b.0) most_types) (each add (us, m) (map (map_rec written) b.0)) a.0 b.2 in
           let valid : AreValid F a.0.0 = subst HoldsValid (sym a.2) e.1 in
           let d = groups_from old.features m b.0 h sound a.0 (sym (each_changed add (map_rec written) (us, m) b.0) ∙ c.1) valid in
           record {
             groups = b.0;
             read = b.1;
-            few = leb-true (there + length b.0) 1000000 c.0;
+            few = leb-true (there + length b.0) most_types c.0;
             held = d.held;
             added = d.added;
             after = sym a.2 ∙ (λ i. record old { stage = in_module (sym d.is i).0 (sym d.is i).1 n });
@@ -148,8 +149,8 @@ types_add old new us m n types count bytes r v =
         at_module old us m n 1 count bytes r.stage
             ∙ within_to old new us m n (λ p. type_items old.features count bytes p) (at old.features m k.held)
             (entries
-            ∙ ap (option_and_then (limited add (map_rec written) there 1000000 (us, m))) k.read
-            ∙ ap (λ b. cond b (each add (us, m) (map (map_rec written) k.groups)) None) (le-leb (there + length k.groups) 1000000 k.few)
+            ∙ ap (option_and_then (limited add (map_rec written) there most_types (us, m))) k.read
+            ∙ ap (λ b. cond b (each add (us, m) (map (map_rec written) k.groups)) None) (le-leb (there + length k.groups) most_types k.few)
             ∙ each_changed add (map_rec written) (us, m) k.groups
             ∙ ran.0)
             k.after,

@@ -6,6 +6,7 @@ use Rattle.wasm_spec_rules.specs.Parts.{Parts}
 use Rattle.wasm_spec_rules.specs.IndexSpaces.{IndexSpaces}
 use Rattle.wasm_spec_rules.specs.LinkRules.{IsValidStart}
 use Rattle.wasm_spec_rules.specs.Modules.{AreValidParts}
+use Rattle.wasm_spec_rules.specs.Limits.{most_types, most_imports, most_exports, most_elements, most_segments}
 use Rattle.wasm_validator_sections.specs.WasmLawsModules.Lists.{AreValidModuleLists}
 use Rattle.wasm_validator_sections.specs.declared.code_state.TheConstants.{MAX_FUNCTION_SIZE}
 
@@ -15,13 +16,13 @@ AreSmall bs = All (λ (b : List ℕ). length b ≤ MAX_FUNCTION_SIZE) bs
 
 -- what is asked of a module's parts beside the rules of its lists
 pub record KeepsOthers (C : IndexSpaces) (p : Parts) : Type 0 where
-  pub groups : length p.groups ≤ 1000000
-  pub types : length C.types ≤ 1000000
-  pub imports : length p.imports ≤ 1000000
-  pub exports : length p.exports ≤ 1000000
-  pub elements : length p.elements ≤ 100000
-  pub segments : length p.segments ≤ 100000
-  pub data_counts : All (λ n. n ≤ 100000) p.data_counts
+  pub groups : length p.groups ≤ most_types
+  pub types : length C.types ≤ most_types
+  pub imports : length p.imports ≤ most_imports
+  pub exports : length p.exports ≤ most_exports
+  pub elements : length p.elements ≤ most_elements
+  pub segments : length p.segments ≤ most_segments
+  pub data_counts : All (λ n. n ≤ most_segments) p.data_counts
   pub starts : All (IsValidStart C) p.starts
   pub bodies : AreSmall p.bodies
 

@@ -49,6 +49,7 @@ use Rattle.wasm_validator_states.proofs.ValidRules.{AreSmall}
 use Rattle.wasm_parser.specs.Machine.{State, start, Run}
 use Rattle.wasm_parser.proofs.Law.{framed_run}
 use Rattle.wasm_spec_rules.specs.Parts.{bodies_of}
+use Rattle.wasm_spec_rules.specs.Limits.{most_types}
 use Rattle.wasm_spec_validity.specs.Modules.{IsValidUpToBodies, IsValidModule, up_to_bodies}
 use Rattle.wasm_spec_validity.specs.Expressions.{expression_at}
 use Rattle.std.proofs.lemmas.List.{length-append}
@@ -423,7 +424,7 @@ decide_payloads laws bytes old valid apart = (
 )
 
 -- no module has more types than a list may hold
-few_alone : (features : WasmFeatures) (ds : List DefType) → length ds ≤ 1000000 → HasIdsWith (features_of features) [] ds
+few_alone : (features : WasmFeatures) (ds : List DefType) → length ds ≤ most_types → HasIdsWith (features_of features) [] ds
 few_alone features ds few = let all = with_at_most (canonical (features_of features)) [] ds in omega (arith, all, few)
 
 room_alone : (features : WasmFeatures) (id : ℕ) (bytes : List ℕ) → RefusesModule bytes (fresh id features) → IsValidModule (features_of features) bytes → ⊥

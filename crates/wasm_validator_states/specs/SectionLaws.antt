@@ -17,7 +17,7 @@ use Rattle.wasm_spec_rules.specs.Parts.{Expression, index}
 use Rattle.wasm_spec_rules.specs.IndexSpaces.{IndexSpaces, IsFunctionType}
 use Rattle.wasm_spec_rules.specs.ItemRules.{IsValidTableEntry, IsValidMemory, IsValidTag, IsValidGlobal}
 use Rattle.wasm_spec_rules.specs.LinkRules.{IsValidExport}
-use Rattle.wasm_spec_rules.specs.Limits.{most_tables, most_memories}
+use Rattle.wasm_spec_rules.specs.Limits.{most_types, most_imports, most_functions, most_tables, most_memories, most_globals, most_tags, most_exports, most_elements, most_segments}
 use Rattle.wasm_readers_types.specs.WasmReadersValues.declared.indices.TheConstants.{MAX_IDS}
 use Rattle.wasm_readers.specs.Written.{written}
 use Rattle.wasm_validator_canonical.specs.Groups.{placed, held}
@@ -55,7 +55,7 @@ abbrev pub FunctionsAdd : Type 0
 FunctionsAdd =
     (old new : Standing) (us : TypesSoFar) (m : Spaces) (n : Noted) (types : List DefType) (count : ℕ) (bytes : List ℕ) → IsReading old us m n types
     → (after_section old 3 count bytes ≡ Some new)
-    ↔ HasAdded u32_at (IsFunctionType types) (length m.functions) 1000000 (λ xs. record m { functions = m.functions ++ xs }) old new us n count bytes
+    ↔ HasAdded u32_at (IsFunctionType types) (length m.functions) most_functions (λ xs. record m { functions = m.functions ++ xs }) old new us n count bytes
 
 abbrev pub MemoriesAdd : Type 0
 MemoriesAdd =
@@ -69,7 +69,7 @@ TagsAdd =
     (old new : Standing) (us : TypesSoFar) (m : Spaces) (n : Noted) (types : List DefType) (count : ℕ) (bytes : List ℕ) → IsReading old us m n types
     → (after_section old 13 count bytes ≡ Some new)
     ↔ ((IsTrue (features_of old.features).exceptions)
-    × HasAdded tag_at (IsValidTag (features_of old.features) types) (length m.tags) 1000000 (λ xs. record m { tags = m.tags ++ xs }) old new us n count bytes)
+    × HasAdded tag_at (IsValidTag (features_of old.features) types) (length m.tags) most_tags (λ xs. record m { tags = m.tags ++ xs }) old new us n count bytes)
 
 -- Each item keeps its rule on the lists that those before it have made of the first, and they make the last.
 abbrev pub AddsEach : {V : Type 0} → (Spaces → V → Type 0) → (Spaces → V → Spaces) → Spaces → List V → Spaces → Type 0
@@ -111,35 +111,35 @@ GlobalsAdd =
     (old new : Standing) (us : TypesSoFar) (m : Spaces) (n : Noted) (types : List DefType) (count : ℕ) (bytes : List ℕ) → IsReading old us m n types
     → (after_section old 6 count bytes ≡ Some new)
     ↔ HasAddedEach (global_entry_at expression_at index) (FitsGlobal (features_of old.features) us types) (λ s g. record s { globals = s.globals ++ listed_global s.types g.ty ∷ [] })
-    (length m.globals) 1000000 old new us m (naming (names_of_globals count bytes) n) count bytes
+    (length m.globals) most_globals old new us m (naming (names_of_globals count bytes) n) count bytes
 
 abbrev pub ElementsAdd : Type 0
 ElementsAdd =
     (old new : Standing) (us : TypesSoFar) (m : Spaces) (n : Noted) (types : List DefType) (count : ℕ) (bytes : List ℕ) → IsReading old us m n types
     → (after_section old 9 count bytes ≡ Some new)
     ↔ HasAddedEach (element_at expression_at index) (FitsElement (features_of old.features) us) (λ s e. record s { elements = s.elements ++ listed_element s.types e ∷ [] })
-    (length m.elements) 100000 old new us m (naming (names_of_elements count bytes) n) count bytes
+    (length m.elements) most_elements old new us m (naming (names_of_elements count bytes) n) count bytes
 
 -- data segments leave the lists as they are
 abbrev pub SegmentsAdd : Type 0
 SegmentsAdd =
     (old new : Standing) (us : TypesSoFar) (m : Spaces) (n : Noted) (types : List DefType) (count : ℕ) (bytes : List ℕ) → IsReading old us m n types
     → (after_section old 11 count bytes ≡ Some new)
-    ↔ HasAddedEach (data_at expression_at) (FitsData (features_of old.features) us) (λ s d. s) 0 100000 old new us m n count bytes
+    ↔ HasAddedEach (data_at expression_at) (FitsData (features_of old.features) us) (λ s d. s) 0 most_segments old new us m n count bytes
 
 -- imports, behind lists that keep their limits
 abbrev pub ImportsAdd : Type 0
 ImportsAdd =
     (old new : Standing) (us : TypesSoFar) (m : Spaces) (n : Noted) (types : List DefType) (count : ℕ) (bytes : List ℕ) → IsReading old us m n types → KeepsLimits (features_of old.features) m
     → (after_section old 2 count bytes ≡ Some new)
-    ↔ HasAddedEach (import_at index) (FitsImport (features_of old.features) types) (with_entry m.types types) (length m.imports) 1000000 old new us m n count bytes
+    ↔ HasAddedEach (import_at index) (FitsImport (features_of old.features) types) (with_entry m.types types) (length m.imports) most_imports old new us m n count bytes
 
 -- exports, behind lists that are the index spaces of a module
 abbrev pub ExportsAdd : Type 0
 ExportsAdd =
     (old new : Standing) (us : TypesSoFar) (m : Spaces) (n : Noted) (C : IndexSpaces) (count : ℕ) (bytes : List ℕ) → IsReading old us m n C.types → HasSpaces C m
     → (after_section old 7 count bytes ≡ Some new)
-    ↔ ((added : HasAdded export_at (IsValidExport (features_of old.features) C) (length m.exports) 1000000 (with_exports (features_of old.features) C m) old new us (naming (names_of_exports count bytes) n) count bytes)
+    ↔ ((added : HasAdded export_at (IsValidExport (features_of old.features) C) (length m.exports) most_exports (with_exports (features_of old.features) C m) old new us (naming (names_of_exports count bytes) n) count bytes)
     × FitExports C m added.items)
 
 -- What is held of a module's types: the types of all modules, the ids among them of this module's types, and these types.
@@ -158,7 +158,7 @@ pub record FitsGroup (F : Features) (h : TypesHeld) (g : Rec ℕ) : Type 0 where
   pub tree : RecTree
   pub closes : closed F h.types g ≡ Some tree
   pub valid : All (IsValidType F declared) (positions tree 0 g.types)
-  pub few : length h.types + length g.types ≤ 1000000
+  pub few : length h.types + length g.types ≤ most_types
   pub room : length (held_with F h g tree).0 ≤ MAX_IDS
 
 -- the types with those of the group behind
@@ -175,7 +175,7 @@ AddsGroups F h (g ∷ gs) k = (fits : FitsGroup F h g) × AddsGroups F (with_gro
 pub record HasAddedGroups (old new : Standing) (us : TypesSoFar) (m : Spaces) (n : Noted) (types : List DefType) (count : ℕ) (bytes : List ℕ) : Type 0 where
   pub groups : List (Rec ℕ)
   pub read : items_at (rec_at index) count bytes ≡ Some groups
-  pub few : length m.types + length groups ≤ 1000000
+  pub few : length m.types + length groups ≤ most_types
   pub held : TypesHeld
   pub added : AddsGroups (features_of old.features) (record { all = us; ids = m.types; types = types }) groups held
   pub after : new ≡ record old { stage = in_module held.all (record m { types = held.ids }) n }

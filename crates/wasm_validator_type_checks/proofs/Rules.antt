@@ -137,7 +137,7 @@ module _ {R : Type 0} (F : Features) (D : R → Option (Sub R)) (a : R) (s : Sub
     subtyping_needs_gc = implied (not s.is_final || is_some (supertype s)) F.gc x;
     supertype_is_not_final = h;
     matches_supertype = m;
-    at_most_63_ancestors = d 64 refl;
+    few_ancestors = d 64 refl;
     shared_needs_shared_everything_threads = c.shared_needs_shared_everything_threads;
     members_of_shared_are_shared = c.members_of_shared_are_shared;
     many_results_need_multi_value = c.many_results_need_multi_value;
@@ -172,7 +172,7 @@ module _ {R : Type 0} (F : Features) (D : R → Option (Sub R)) (a : R) (s : Sub
   }
 
   pub shallow_from : TypeRules F D a s → IsShallow D 64 a
-  shallow_from r = λ m g. ap (λ k. ancestor_at D k a) g ∙ r.at_most_63_ancestors
+  shallow_from r = λ m g. ap (λ k. ancestor_at D k a) g ∙ r.few_ancestors
 
 -- the rules of extending
 module _ (F : Features) (D : ℕ → Option (Sub ℕ)) (a : ℕ) (s : Sub ℕ) (e : D a ≡ Some s) where
