@@ -34,7 +34,6 @@ use report::{report_no_memory, report_of, report_with_names, write_message};
 pub use report::{NO_FUNCTION, NO_MEMORY, NOT_CHECKED, REFUSED, Report, VALID};
 use std::alloc::Global;
 use wasm_validator_handles::validator::{Flags, WasmFeatures};
-pub use wasm_validator_handles::{EXACT_FUNCTION, FUNCTION, GLOBAL, MEMORY, NO_ID, TABLE, TAG};
 
 /// The version of the library, as major · 1,000,000 + minor · 1,000 + patch.
 #[unsafe(no_mangle)]

@@ -1,5 +1,5 @@
 -- What is told of the imports and the exports of a module.
-use Rattle.std.specs.Prelude.{ℕ, ◌≡◌, ◌+◌, ◌++◌, if◌then◌else◌, Bool, List, [], ◌∷◌, length, map, is_some}
+use Rattle.std.specs.Prelude.{ℕ, ◌≡◌, ◌+◌, ◌-◌, ◌^◌, ◌++◌, if◌then◌else◌, Bool, List, [], ◌∷◌, length, map, min, is_some}
 use Rattle.std.specs.Option.{unwrap_or}
 use Rattle.wasm_spec.specs.Syntax.{Table, Memory, Global, map_ref, map_val, func_extern, func_exact_extern, table_extern, memory_extern, global_extern, tag_extern}
 use Rattle.wasm_readers_types.specs.WasmReadersValues.declared.indices.UnpackedIndex.{UnpackedIndex}
@@ -10,6 +10,10 @@ use Rattle.wasm_validator.specs.WasmValidatorTypes.WasmValidatorTypeList.Lookups
 use Rattle.wasm_validator_handles.specs.declared.entities.ExternType.{ExternType}
 use Rattle.wasm_validator_handles.specs.declared.entities.TheConstants.{FUNCTION, TABLE, MEMORY, GLOBAL, TAG, EXACT_FUNCTION, NO_ID, HAS_MAXIMUM, HAS_64_BITS, IS_SHARED, IS_MUTABLE, PAGE_SIZE_LOG2, EXTERN_SIZE}
 use Rattle.wasm_validator_handles.specs.Values.{numbers_of, plain_numbers, reference_numbers}
+
+-- a count, as far as 64 bits count
+abbrev pub counted : ℕ → ℕ
+counted n = min n (2 ^ 64 - 1)
 
 abbrev pub flag_of : ℕ → Bool → ℕ
 flag_of bit is_set = if is_set then bit else 0

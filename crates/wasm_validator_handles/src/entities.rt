@@ -1,11 +1,11 @@
 //! The imports and the exports of a module: their types, written as numbers, and their names.
 
-ghost use Rattle.std.specs.Prelude.{◌≡◌, ◌≤◌, ◌++◌, ◌∷◌, [], if◌then◌else◌, IfOk, OnOk};
+ghost use Rattle.std.specs.Prelude.{◌≡◌, ◌≤◌, ◌++◌, ◌∷◌, [], if◌then◌else◌, length, IfOk, OnOk};
 ghost use Rattle.wasm_validator.specs.WasmValidatorTypes.Entities.{entity_of};
 ghost use Rattle.wasm_validator.specs.WasmValidatorTypes.Rows.{all_imports};
 ghost use Rattle.wasm_validator.specs.WasmValidatorTypes.Shown.{shown_by};
 ghost use Rattle.wasm_readers_types.specs.SeenExterns.{global_of, memory_of, table_of};
-ghost use Rattle.wasm_validator_handles.specs.Entities.{AreOf, Joins, by_id, entity_type_of, export_rows, extern_type_of, global_type_of, memory_type_of, table_type_of};
+ghost use Rattle.wasm_validator_handles.specs.Entities.{AreOf, Joins, by_id, counted, entity_type_of, export_rows, extern_type_of, global_type_of, memory_type_of, table_type_of};
 
 use crate::values::{ValueType, no_value, tell_reference, tell_value};
 use std::alloc::{AllocError, Global};
@@ -92,6 +92,34 @@ impl Externs {
             names: Vec::new(alloc),
         }
     }
+}
+
+/// How many imports the module has, as far as 64 bits count.
+pub fn count_imports(types: &TypesRef<'_>) -> u64
+    ensures { result ≡ counted (length (all_imports (shown_by types.now).spaces.imports)) }
+{
+    let mut count = 0u64;
+    let Some(mut imports) = types.core_imports() else {
+        return count;
+    };
+    'imports: while let Some(_) = imports.next() {
+        count = count.saturating_add(1);
+    }
+    count
+}
+
+/// How many exports the module has, as far as 64 bits count.
+pub fn count_exports(types: &TypesRef<'_>) -> u64
+    ensures { result ≡ counted (length (shown_by types.now).spaces.exports) }
+{
+    let mut count = 0u64;
+    let Some(mut exports) = types.core_exports() else {
+        return count;
+    };
+    'exports: while let Some(_) = exports.next() {
+        count = count.saturating_add(1);
+    }
+    count
 }
 
 /// Those of the module that has these types.

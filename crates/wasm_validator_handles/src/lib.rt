@@ -12,8 +12,7 @@ mod signatures;
 mod values;
 
 pub use entities::{
-    EXACT_FUNCTION, ExternType, Externs, FUNCTION, GLOBAL, MEMORY, NO_ID, TABLE, TAG,
-    gather_externs,
+    ExternType, Externs, count_exports, count_imports, gather_externs,
 };
 pub use handle::Handle;
 pub use kept::{Answer, Kept, NotAsked};

@@ -1,7 +1,7 @@
 use Rattle.std.proofs.Common.{◌≡◌, ◌≤◌, ◌+◌, ◌-◌, ◌^◌, length}
-use Rattle.wasm_validator_handles.specs.WasmValidator.WasmValidatorTypes.Left.{exports_left}
-use Rattle.ruthvelka_c.specs.Reports.{counted}
-use Rattle.ruthvelka_c.proofs.report.count_exports.Given as goal
+use Rattle.wasm_validator.specs.WasmValidatorTypes.Left.{exports_left}
+use Rattle.wasm_validator_handles.specs.Entities.{counted}
+use Rattle.wasm_validator_handles.proofs.entities.count_exports.Given as goal
 
 abbrev pub invariant-exports : goal.invariant-exports
 invariant-exports l = record {
