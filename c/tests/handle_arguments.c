@@ -218,7 +218,8 @@ static void try_validator(void) {
         expect("the copy", retain.handles[1] == &types && retain.places[0] == validator.words[2]);
         freed = NULL, ruthvelka_types_release(&types);
         expect("what is freed", freed == &types);
-        expect("null pointers of validate", ruthvelka_validator_validate(&validator, NULL, 0, NULL, 0, NULL, NULL) == status && arena.blocks == before + 1);
+        expect("null pointers of validate", ruthvelka_validator_validate(&validator, NULL, 0, NULL, 0, NULL, NULL) == status
+            && arena.blocks == before + 1);
         expect("what stands in their place", passed.places[0] && passed.places[1] && passed.handles[1]);
     }
     struct ruthvelka_outcome outcome = {.size = sizeof outcome};
@@ -228,8 +229,8 @@ static void try_validator(void) {
         && outcome.status == NO_MEMORY && !outcome.types && is_nothing(&types) && validator.words[2] == last && arena.blocks == 2);
     expect("no memory for the last", ruthvelka_validator_types(&validator, &types) == NO_MEMORY && is_nothing(&types));
     retained = DONE;
-    expect("the last", ruthvelka_validator_types(&validator, &types) == DONE && retain.handles[0] == &validator.words[2] && retain.handles[1] == &types
-        && arena.blocks == 3);
+    expect("the last", ruthvelka_validator_types(&validator, &types) == DONE && retain.handles[0] == &validator.words[2]
+        && retain.handles[1] == &types && arena.blocks == 3);
     ruthvelka_types_release(&types);
     const long requests = arena.requests;
     expect("reset", ruthvelka_validator_reset(&validator) == FAILED && arena.requests == requests + 1 && passed.handles[0] == &validator);
@@ -242,7 +243,8 @@ static void try_types(void) {
     retained = NO_MEMORY;
     expect("no copy", ruthvelka_types_retain(&types, &others) == NO_MEMORY && is_nothing(&others));
     retained = status = DONE;
-    expect("a copy", ruthvelka_types_retain(&types, &others) == DONE && arena.blocks == 4 && retain.handles[0] == &types && retain.handles[1] == &others);
+    expect("a copy", ruthvelka_types_retain(&types, &others) == DONE && arena.blocks == 4 && retain.handles[0] == &types
+        && retain.handles[1] == &others);
     expect("ids", ruthvelka_types_ids(&types, &outcome, type_ids, 3, function_ids, 2) == DONE && passed.places[0] == type_ids
         && passed.places[1] == function_ids);
     expect_passed("ids", &types, 3, 2);
@@ -250,7 +252,8 @@ static void try_types(void) {
     expect("null pointers of ids", ruthvelka_types_ids(&types, NULL, NULL, 0, NULL, 0) == DONE && passed.places[0] && passed.places[1]);
     for (status = 0; status < 22; status++) {
         expect("below", ruthvelka_types_is_subtype(&types, 3, 4) == (status == 1) && passed.numbers[0] == 3 && passed.numbers[1] == 4);
-        const struct ruthvelka_value_type first = {.size = 20, .kind = 11, .heap = 12, .id = 13, .flags = 14}, second = {sizeof second, 15, 16, 17, 18};
+        const struct ruthvelka_value_type first = {.size = 20, .kind = 11, .heap = 12, .id = 13, .flags = 14},
+            second = {sizeof second, 15, 16, 17, 18};
         expect("matches", ruthvelka_types_matches(&types, &first, &second) == (status == 1) && passed.handles[0] == &types && asked[0].kind == 11
             && asked[0].heap == 12 && asked[0].id == 13 && !asked[0].flags && !memcmp(&asked[1], &second, sizeof second));
         expect("given", ruthvelka_types_entity_may_be_given(&types, 5, &others, 6) == (status == 1) && passed.numbers[0] == 5 && passed.numbers[1] == 6
@@ -263,20 +266,21 @@ static void try_told(void) {
     struct ruthvelka_signature signature = {sizeof signature, 7, 7};
     imports->size = exports->size = sizeof *imports, params->size = results->size = sizeof *params;
     status = NO_MEMORY;
-    expect("no memory for imports", ruthvelka_types_externs(&types, &outcome, imports, 3, exports, 2, message, 1) == NO_MEMORY && outcome.status == NO_MEMORY
-        && !outcome.imports);
+    expect("no memory for imports", ruthvelka_types_externs(&types, &outcome, imports, 3, exports, 2, message, 1) == NO_MEMORY
+        && outcome.status == NO_MEMORY && !outcome.imports);
     status = DONE;
     const long requests = arena.requests;
     expect("externs", ruthvelka_types_externs(&types, &outcome, imports, 3, exports, 2, message, 1) == DONE && passed.places[0] == imports
         && passed.places[1] == exports && passed.places[2] == message && passed.counts[2] == 1 && arena.requests == requests + 1);
     expect_passed("externs", &types, 3, 2);
     expect_outcome("their outcome", &outcome, DONE);
-    expect("null pointers of externs", ruthvelka_types_externs(&types, NULL, NULL, 0, NULL, 0, NULL, 0) == DONE && passed.places[0] && passed.places[1]
-        && passed.places[2]);
+    expect("null pointers of externs", ruthvelka_types_externs(&types, NULL, NULL, 0, NULL, 0, NULL, 0) == DONE && passed.places[0]
+        && passed.places[1] && passed.places[2]);
     expect("a signature", ruthvelka_types_signature(&types, 9, &signature, params, 3, results, 2) == DONE && passed.places[0] == params
         && passed.places[1] == results && passed.numbers[0] == 9 && signature.params == 21 && signature.results == 22);
     expect_passed("signature", &types, 3, 2);
-    expect("null pointers of a signature", ruthvelka_types_signature(&types, 9, NULL, NULL, 0, NULL, 0) == DONE && passed.places[0] && passed.places[1]);
+    expect("null pointers of a signature", ruthvelka_types_signature(&types, 9, NULL, NULL, 0, NULL, 0) == DONE && passed.places[0]
+        && passed.places[1]);
     status = WRONG, signature.params = 7;
     expect("no signature", ruthvelka_types_signature(&types, 9, &signature, params, 3, results, 2) == WRONG && signature.params == 7);
 }

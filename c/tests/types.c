@@ -1,6 +1,6 @@
 /* What kept types tell: the whole type of each import and export, and what functions take and give, with each room, and nothing written beyond it; of
-   the last module that a validator accepted too; and where each request for memory is refused in turn. All that is expected was written from the bytes
-   of the modules by hand. */
+   the last module that a validator accepted too; and where each request for memory is refused in turn. All that is expected was written from the
+   bytes of the modules by hand. */
 #include "handles.h"
 
 #define BESIDE (STANDARD | RUTHVELKA_CUSTOM_PAGE_SIZES | RUTHVELKA_CUSTOM_DESCRIPTORS | RUTHVELKA_SHARED_EVERYTHING_THREADS)
@@ -96,8 +96,8 @@ static void try_rooms(struct ruthvelka_types *types, const struct told *it, size
     memcpy(right.imports, it->imports, least(i, it->import_count) * sizeof *it->imports);
     memcpy(right.exports, it->exports, least(e, it->export_count) * sizeof *it->exports);
     memcpy(right.names, it->names, least(n, length));
-    expect("imports and exports", ruthvelka_types_externs(types, &outcome, imports == 13 ? NULL : told.imports, i, exports == 13 ? NULL : told.exports, e,
-        names == 13 ? NULL : told.names, n) == DONE);
+    expect("imports and exports", ruthvelka_types_externs(types, &outcome, imports == 13 ? NULL : told.imports, i,
+        exports == 13 ? NULL : told.exports, e, names == 13 ? NULL : told.names, n) == DONE);
     expect("how many there are", outcome.status == DONE && outcome.imports == it->import_count && outcome.exports == it->export_count
         && outcome.names_length == length && outcome.function == NOWHERE && !outcome.offset && !outcome.message_length);
     expect("what is written", !memcmp(&told, &right, sizeof told));
@@ -149,10 +149,12 @@ static void try_signatures(struct ruthvelka_types *many_types, struct ruthvelka_
 static void try_told_values(struct ruthvelka_types *types) {
     struct ruthvelka_extern_type imports[7] = {{.size = sizeof imports[0]}};
     const struct ruthvelka_value_type any = VALUE(0x63, 0x6e, 0, 0), shared_none = VALUE(0x64, 0x71, 0, 1), open = VALUE(0x64, 0, 4, 0),
-        both = VALUE(0x64, 0x6e, 0, 2), neither = VALUE(0x64, 0, 4, 1), unknown = VALUE(0x64, 0x6e, 0, 4), old = {.size = 20, .kind = 0x64, .id = 4, .flags = 9};
+        both = VALUE(0x64, 0x6e, 0, 2), neither = VALUE(0x64, 0, 4, 1), unknown = VALUE(0x64, 0x6e, 0, 4),
+        old = {.size = 20, .kind = 0x64, .id = 4, .flags = 9};
     expect("imports", ruthvelka_types_externs(types, NULL, imports, 7, NULL, 0, NULL, 0) == DONE);
     const struct ruthvelka_value_type *const shared = &imports[4].value, *const exact = &imports[5].value;
-    expect("themselves", ruthvelka_types_matches(types, shared, shared) == RUTHVELKA_YES && ruthvelka_types_matches(types, exact, exact) == RUTHVELKA_YES);
+    expect("themselves", ruthvelka_types_matches(types, shared, shared) == RUTHVELKA_YES
+        && ruthvelka_types_matches(types, exact, exact) == RUTHVELKA_YES);
     expect("shared ones", ruthvelka_types_matches(types, &shared_none, shared) == RUTHVELKA_YES && !ruthvelka_types_matches(types, &any, shared)
         && !ruthvelka_types_matches(types, shared, &any));
     expect("exact ones", ruthvelka_types_matches(types, exact, &open) == RUTHVELKA_YES && !ruthvelka_types_matches(types, &open, exact));
@@ -233,8 +235,8 @@ static long live(struct arena *arena) {
             expect("a signature wants no memory", arena->requests == requests);
             begin();
             status = ruthvelka_types_externs(&types, &outcome, told.imports, 12, told.exports, 12, told.names, 80);
-            expect("imports and exports", (status == DONE || status == NO_MEMORY) && outcome.status == status && (outcome.imports != 0) == (status == DONE)
-                && (memcmp(&told, &right, sizeof told) != 0) == (status == DONE) && arena->requests > requests);
+            expect("imports and exports", (status == DONE || status == NO_MEMORY) && outcome.status == status
+                && (outcome.imports != 0) == (status == DONE) && (memcmp(&told, &right, sizeof told) != 0) == (status == DONE) && arena->requests > requests);
             refusals += status == NO_MEMORY;
             ruthvelka_types_release(&types);
             status = ruthvelka_validator_types(&validator, &types);

@@ -50,7 +50,8 @@ pub record NoneAreWritten
 
 -- of the types behind a handle: the imports and the exports of their module, unless memory for them is refused
 abbrev pub TellsExterns :
-    Option (shown.Types Global) → Report → Report → List ExternType → List ExternType → List ExternType → List ExternType → List ℕ → List ℕ → ℕ → Type 0
+    Option (shown.Types Global) → Report → Report → List ExternType → List ExternType → List ExternType → List ExternType → List ℕ → List ℕ → ℕ
+    → Type 0
 TellsExterns (Some t) r0 r1 i0 i1 e0 e1 n0 n1 status =
     ((status ≡ STATUS_DONE) × TypesAreWritten (shown_of t).spaces r1 i0 i1 e0 e1 n0 n1)
     ⊎ ((status ≡ STATUS_NO_MEMORY) × NoneAreWritten r0 r1 i0 i1 e0 e1 n0 n1)

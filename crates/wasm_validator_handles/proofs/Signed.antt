@@ -4,6 +4,7 @@ use Rattle.std.specs.List.{slice_index_or}
 use Rattle.std.specs.declared.ops.Range.{Range}
 use Rattle.std.proofs.lemmas.Option.{slice_get_read, slice_get_past}
 use Rattle.wasm_spec.specs.Syntax.{map_comp}
+use Rattle.wasm_readers_types.specs.WasmReadersValues.declared.indices.TheConstants.{MAX_IDS}
 use Rattle.wasm_readers_types.specs.WasmReadersValues.declared.indices.CoreTypeId.{CoreTypeId}
 use Rattle.wasm_readers_types.specs.SeenTypes.{comp_of}
 use Rattle.wasm_readers_types.specs.declared.types.ArrayType.{ArrayType}
@@ -16,14 +17,16 @@ use Rattle.wasm_readers_types.specs.declared.types.SubType.{SubType}
 use Rattle.wasm_validator_type_list.specs.WasmValidatorTypeGroups.Groups.{all_in, first_of, IsInGroup}
 use Rattle.wasm_validator_type_list.specs.Lookups.{leads_to, group_span}
 use Rattle.wasm_validator_type_list.specs.Declares.{sub_by_ids, subs_by_ids, declares}
+use Rattle.wasm_validator_type_list.proofs.DefTypes.{first_of-within}
 use Rattle.wasm_validator_type_list.proofs.Declares.{declares-at}
 use Rattle.wasm_validator_type_list.proofs.Joined.{length-subs}
 use Rattle.wasm_validator_handles.specs.Signatures.{func_in, func_of_comp, values_by_ids}
 
 module _ {A : Type 0} where
   -- a type that is read, in a group whose range of ids is read
-  module _ (gs : List (List (SubType A))) (k at start : ℕ) (ids : Range CoreTypeId) (ty : SubType A) (in_group : IsInGroup gs k at) (there : at < length (all_in gs))
-      (span : ids ≡ group_span gs k) (first : start ≡ ids.start.index) (here : ty ≡ slice_index_or (all_in gs) at ty) where
+  module _
+      (gs : List (List (SubType A))) (k at start : ℕ) (ids : Range CoreTypeId) (ty : SubType A) (in_group : IsInGroup gs k at)
+      (there : at < length (all_in gs)) (span : ids ≡ group_span gs k) (first : start ≡ ids.start.index) (here : ty ≡ slice_index_or (all_in gs) at ty) where
     from : start ≡ first_of gs k
     from = first ∙ ap (λ (i : Range CoreTypeId). i.start.index) span
 
@@ -35,10 +38,15 @@ module _ {A : Type 0} where
         ap func_in (declares-at gs k at ty in_group read) ∙ ap (λ n. func_in (Some (sub_by_ids n ty))) (sym from)
         ∙ ap (λ (x : CompositeInnerType A). func_of_comp (map_comp (leads_to start) (comp_of x))) e
 
-    pub func_found : (f : FuncType A) → ty.composite_type.inner ≡ Func f → Some (values_by_ids start f.params, values_by_ids start f.results) ≡ func_in (declares gs at)
+    pub start_within : length (all_in gs) ≤ MAX_IDS → start ≤ MAX_IDS
+    start_within room = omega (arith, from, first_of-within gs k, room)
+
+    pub func_found : (f : FuncType A) → ty.composite_type.inner ≡ Func f
+        → Some (values_by_ids start f.params, values_by_ids start f.results) ≡ func_in (declares gs at)
     func_found f e = sym (says (Func f) e)
 
-    pub other_found : (c : CompositeInnerType A) → ty.composite_type.inner ≡ c → func_of_comp (map_comp (leads_to start) (comp_of c)) ≡ None → None ≡ func_in (declares gs at)
+    pub other_found : (c : CompositeInnerType A) → ty.composite_type.inner ≡ c
+        → func_of_comp (map_comp (leads_to start) (comp_of c)) ≡ None → None ≡ func_in (declares gs at)
     other_found c e none = sym (says c e ∙ none)
 
   -- behind the last id

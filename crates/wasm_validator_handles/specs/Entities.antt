@@ -1,14 +1,16 @@
 -- What is told of the imports and the exports of a module.
 use Rattle.std.specs.Prelude.{ℕ, ◌≡◌, ◌+◌, ◌-◌, ◌^◌, ◌++◌, if◌then◌else◌, Bool, List, [], ◌∷◌, length, map, min, is_some}
 use Rattle.std.specs.Option.{unwrap_or}
-use Rattle.wasm_spec.specs.Syntax.{Table, Memory, Global, map_ref, map_val, func_extern, func_exact_extern, table_extern, memory_extern, global_extern, tag_extern}
+use Rattle.wasm_spec.specs.Syntax.{Table, Memory, Global, map_ref, map_val}
+use Rattle.wasm_spec.specs.Syntax.{func_extern, func_exact_extern, table_extern, memory_extern, global_extern, tag_extern}
 use Rattle.wasm_readers_types.specs.WasmReadersValues.declared.indices.UnpackedIndex.{UnpackedIndex}
 use Rattle.wasm_validator.specs.WasmValidatorTypes.Entities.{Entity}
 use Rattle.wasm_validator.specs.WasmValidatorTypes.Rows.{all_imports}
 use Rattle.wasm_validator.specs.WasmValidatorTypes.Spaces.{Spaces}
 use Rattle.wasm_validator.specs.WasmValidatorTypes.WasmValidatorTypeList.Lookups.{leads_to}
 use Rattle.wasm_validator_handles.specs.declared.entities.ExternType.{ExternType}
-use Rattle.wasm_validator_handles.specs.declared.entities.TheConstants.{FUNCTION, TABLE, MEMORY, GLOBAL, TAG, EXACT_FUNCTION, NO_ID, HAS_MAXIMUM, HAS_64_BITS, IS_SHARED, IS_MUTABLE, PAGE_SIZE_LOG2, EXTERN_SIZE}
+use Rattle.wasm_validator_handles.specs.declared.entities.TheConstants.{FUNCTION, TABLE, MEMORY, GLOBAL, TAG, EXACT_FUNCTION, NO_ID}
+use Rattle.wasm_validator_handles.specs.declared.entities.TheConstants.{HAS_MAXIMUM, HAS_64_BITS, IS_SHARED, IS_MUTABLE, PAGE_SIZE_LOG2, EXTERN_SIZE}
 use Rattle.wasm_validator_handles.specs.Values.{numbers_of, plain_numbers, reference_numbers}
 
 -- a count, as far as 64 bits count
@@ -124,7 +126,8 @@ externs_behind names (row ∷ rows) = extern_type_of names row.0 row.1 row.2 ∷
 
 -- one after another behind those that are there, and so their names
 pub record Joins
-    (rows : List (List ℕ × List ℕ × Entity)) (externs_old : List ExternType) (names_old : List ℕ) (externs_new : List ExternType) (names_new : List ℕ) : Type 0 where
+    (rows : List (List ℕ × List ℕ × Entity))
+    (externs_old : List ExternType) (names_old : List ℕ) (externs_new : List ExternType) (names_new : List ℕ) : Type 0 where
   pub externs : externs_new ≡ externs_old ++ externs_behind names_old rows
   pub names : names_new ≡ names_old ++ names_of rows
 

@@ -4,15 +4,17 @@ use Rattle.std.specs.Bool.{Decides}
 use Rattle.std.specs.Option.{option_map}
 use Rattle.std.specs.declared.alloc.Global.{Global}
 use Rattle.wasm_spec.specs.BinaryTypes.{abstract_heap_from}
-use Rattle.wasm_spec.specs.Syntax.{AbstractHeap, any_heap, eq_heap, i31_heap, struct_heap, array_heap, none_heap, func_heap, nofunc_heap, extern_heap, noextern_heap}
-use Rattle.wasm_spec.specs.Syntax.{exn_heap, noexn_heap, cont_heap, nocont_heap, Heap, Ref, Val, i32, i64, f32, f64, v128, reference, concrete, exact, abstract_heap}
+use Rattle.wasm_spec.specs.Syntax.{AbstractHeap, any_heap, eq_heap, i31_heap, struct_heap, array_heap, none_heap, func_heap, nofunc_heap}
+use Rattle.wasm_spec.specs.Syntax.{extern_heap, noextern_heap, exn_heap, noexn_heap, cont_heap, nocont_heap}
+use Rattle.wasm_spec.specs.Syntax.{Heap, Ref, Val, i32, i64, f32, f64, v128, reference, concrete, exact, abstract_heap}
 use Rattle.wasm_spec.specs.Matching.{MatchesVal}
 use Rattle.wasm_validator.specs.WasmValidatorTypes.WasmValidatorTypeList.Declares.{declares}
 use Rattle.wasm_validator.specs.WasmValidatorTypes.WasmValidatorTypeList.Listing.{Listing, types_in}
 use Rattle.wasm_validator.specs.WasmValidatorTypes.WasmValidatorTypeList.Subtyping.{IsValOver, val_by_ids}
 use Rattle.wasm_readers_types.specs.WasmReadersValues.declared.values.ValType.{ValType}
 use Rattle.wasm_validator_handles.specs.declared.values.ValueType.{ValueType}
-use Rattle.wasm_validator_handles.specs.declared.values.TheConstants.{I32, I64, F32, F64, V128, REFERENCE, NULL_OR_REFERENCE, TYPE_BY_ID, MOST_IDS, SHARED_HEAP, EXACT_HEAP, VALUE_SIZE}
+use Rattle.wasm_validator_handles.specs.declared.values.TheConstants.{I32, I64, F32, F64, V128, REFERENCE, NULL_OR_REFERENCE}
+use Rattle.wasm_validator_handles.specs.declared.values.TheConstants.{TYPE_BY_ID, MOST_IDS, SHARED_HEAP, EXACT_HEAP, VALUE_SIZE}
 
 -- a heap type by its id: with its subtypes, or exactly it
 abbrev pub id_from : ValueType → Option (Heap ℕ)

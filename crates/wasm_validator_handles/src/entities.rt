@@ -5,7 +5,8 @@ ghost use Rattle.wasm_validator.specs.WasmValidatorTypes.Entities.{entity_of};
 ghost use Rattle.wasm_validator.specs.WasmValidatorTypes.Rows.{all_imports};
 ghost use Rattle.wasm_validator.specs.WasmValidatorTypes.Shown.{shown_by};
 ghost use Rattle.wasm_readers_types.specs.SeenExterns.{global_of, memory_of, table_of};
-ghost use Rattle.wasm_validator_handles.specs.Entities.{AreOf, Joins, by_id, counted, entity_type_of, export_rows, extern_type_of, global_type_of, memory_type_of, table_type_of};
+ghost use Rattle.wasm_validator_handles.specs.Entities.{AreOf, Joins, counted, export_rows, extern_type_of};
+ghost use Rattle.wasm_validator_handles.specs.Entities.{by_id, entity_type_of, global_type_of, memory_type_of, table_type_of};
 
 use crate::values::{ValueType, no_value, tell_reference, tell_value};
 use std::alloc::{AllocError, Global};

@@ -1,11 +1,11 @@
 //! Function types by their ids.
 
-ghost use Rattle.std.specs.Prelude.{◌≡◌, ◌≤◌, IfSome, IsSome, ◌↔◌};
+ghost use Rattle.std.specs.Prelude.{◌≡◌, ◌≤◌, IfSome};
 ghost use Rattle.std.specs.Option.{option_map};
 ghost use Rattle.wasm_validator.specs.WasmValidatorTypes.WasmValidatorTypeList.Declares.{declares};
 ghost use Rattle.wasm_validator_handles.specs.Signatures.{func_in, values_by_ids};
+ghost use Rattle.wasm_validator_handles.specs.declared.values.TheConstants.{MOST_IDS};
 
-use crate::values::MOST_IDS;
 use wasm_validator::{CompositeInnerType, CoreTypeId, TypeList, ValType};
 
 /// What a function of a type takes and gives. Their references stand in a recursion group whose first
