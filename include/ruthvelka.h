@@ -65,7 +65,9 @@
    Threads. Calls on different validators, and on types from different ones, and all calls without
    a handle, may run side by side. What a call is given belongs to it until it returns; bytes and
    lists of modules are only read, so calls may share them. Make no call in a signal handler, and
-   none in an allocator.
+   none in an allocator. The bodies of a module are validated by the call on the module: what a
+   validator holds counts its holders without locks, so that two threads can't read it. Threads
+   validate several modules side by side, each by a validator of its own.
 
    Wrong calls. A pointer may be null where its count is 0; an outcome, and the handle for the types
    of a module, may always be null. Any other null pointer, a count of items that no object can have
