@@ -1,7 +1,7 @@
 -- The imports and exports that are told with an answer.
 use Rattle.std.proofs.Common.{ℕ, ◌≡◌, List, [], length, refl, sym, subst, arith}
 use Rattle.std.specs.declared.result.Result.TheVariants.{Ok, Err}
-use Rattle.ruthvelka_c.specs.declared.externs.Extern.{Extern}
+use Rattle.wasm_validator_handles.specs.declared.entities.Extern.{Extern}
 use Rattle.wasm_validator_handles.specs.declared.entities.ExternType.{ExternType}
 use Rattle.wasm_validator_handles.specs.declared.entities.Externs as gathered
 use Rattle.ruthvelka_c.specs.declared.report.Report.{Report}

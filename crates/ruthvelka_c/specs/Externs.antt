@@ -4,26 +4,15 @@ use Rattle.std.specs.Option.{option_map}
 use Rattle.std.specs.declared.result.Result.TheVariants.{Ok, Err}
 use Rattle.wasm_validator_handles.specs.WasmValidator.WasmValidatorTypes.Spaces.{Spaces}
 use Rattle.wasm_validator_handles.specs.WasmValidator.WasmValidatorTypes.Shown.{shown_of}
-use Rattle.wasm_validator_handles.specs.Entities.{AreOf}
+use Rattle.wasm_validator_handles.specs.Entities.{AreOf, plain_of}
+use Rattle.wasm_validator_handles.specs.declared.entities.Extern.{Extern}
 use Rattle.wasm_validator_handles.specs.declared.entities.ExternType.{ExternType}
 use Rattle.wasm_validator_handles.specs.declared.entities.Externs as gathered
-use Rattle.ruthvelka_c.specs.declared.externs.Extern.{Extern}
 use Rattle.wasm_validator_handles.specs.WasmValidator.Verdict.{DecidesAlone}
 use Rattle.ruthvelka_c.specs.declared.report.Report.{Report}
 use Rattle.ruthvelka_c.specs.Answers.{Answer}
 use Rattle.ruthvelka_c.specs.Reports.{Tells, flags}
 use Rattle.ruthvelka_c.specs.Arrays.{AreWritten, AreTold}
-
--- the names, the kind and the id of the type, without the rest of it
-abbrev pub plain_of : ExternType → Extern
-plain_of e = record {
-  module_start = e.module_start;
-  module_length = e.module_length;
-  name_start = e.name_start;
-  name_length = e.name_length;
-  kind = e.kind;
-  type_id = e.type_id;
-}
 
 abbrev pub AreGathered : Answer → gathered.Externs → Type 0
 AreGathered (Ok t) e = AreOf (shown_of t).spaces e.imports.items e.exports.items e.names.items

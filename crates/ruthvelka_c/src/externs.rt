@@ -3,24 +3,13 @@
 ghost use Rattle.std.specs.Prelude.{◌≡◌, ◌<◌, IfOk, length, slice_get, Some};
 ghost use Rattle.std.specs.Option.{option_map};
 ghost use Rattle.ruthvelka_c.specs.Arrays.{AreWritten};
-ghost use Rattle.ruthvelka_c.specs.Externs.{AreGathered, ExternsTell, plain_of};
+ghost use Rattle.wasm_validator_handles.specs.Entities.{plain_of};
+ghost use Rattle.ruthvelka_c.specs.Externs.{AreGathered, ExternsTell};
 
 use crate::arrays::write_bytes;
 use crate::report::Answer;
 use std::alloc::{AllocError, Global};
-use wasm_validator_handles::{ExternType, Externs, gather_externs};
-
-/// An import or an export. C reads it as `struct ruthvelka_extern`.
-#[repr(C)]
-#[derive(Clone, Copy)]
-pub struct Extern {
-    pub module_start: u64,
-    pub module_length: u64,
-    pub name_start: u64,
-    pub name_length: u64,
-    pub kind: u32,
-    pub type_id: u32,
-}
+use wasm_validator_handles::{Extern, ExternType, Externs, gather_externs};
 
 /// Those of an accepted module, and none where it is refused.
 pub fn gather_answer(alloc: Global, answer: &Answer) -> Result<Externs, AllocError>
@@ -46,15 +35,7 @@ fn extern_at(given: &[ExternType], k: usize) -> Extern
     requires { k < length given.now }
     ensures { option_map plain_of (slice_get given.now k) ≡ Some result }
 {
-    let it = given[k];
-    Extern {
-        module_start: it.module_start,
-        module_length: it.module_length,
-        name_start: it.name_start,
-        name_length: it.name_length,
-        kind: it.kind,
-        type_id: it.type_id,
-    }
+    given[k].plain()
 }
 
 /// Writes all of these as far as there is room, and gives the length of all names.

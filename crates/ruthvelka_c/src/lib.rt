@@ -23,7 +23,6 @@ mod types;
 
 use answers::{answer_alone, answer_list, write_ids};
 use arrays::write_numbers;
-pub use externs::Extern;
 use externs::{gather_answer, write_all};
 pub use lists::Bytes;
 use lists::{gather_functions, gather_types, write_reports};
@@ -33,6 +32,7 @@ pub use queries::{IS_SUBTYPE, MAY_BE_GIVEN, NO, Query, UNKNOWN, YES};
 use report::{report_no_memory, report_of, report_with_names, write_message};
 pub use report::{NO_FUNCTION, NO_MEMORY, NOT_CHECKED, REFUSED, Report, VALID};
 use std::alloc::Global;
+pub use wasm_validator_handles::Extern;
 use wasm_validator_handles::validator::{Flags, WasmFeatures};
 
 /// The version of the library, as major · 1,000,000 + minor · 1,000 + patch.

@@ -1,14 +1,14 @@
 //! What the types behind a handle are: those of imports and exports, and function types by their
 //! ids.
 
-ghost use Rattle.std.specs.Prelude.{◌≡◌, ◌≤◌, ◌<◌, length, slice_get, Some};
+ghost use Rattle.std.specs.Prelude.{◌≡◌, ◌≤◌, ◌<◌, length, slice_get, IfSome, Some};
 ghost use Rattle.std.specs.declared.option.Option.TheVariants.{Some as Just};
 ghost use Rattle.std.specs.Option.{option_map};
 ghost use Rattle.wasm_validator_handles.specs.Keeping.{types_of};
-ghost use Rattle.wasm_validator_handles.specs.Signatures.{values_by_ids};
+ghost use Rattle.wasm_validator_handles.specs.Signatures.{signature_by_ids, values_by_ids};
 ghost use Rattle.wasm_validator_handles.specs.Values.{numbers_of};
 ghost use Rattle.wasm_validator_handles.specs.declared.values.TheConstants.{MOST_IDS};
-ghost use Rattle.ruthvelka_c.specs.Types.{TellsExterns, TellsSignature, TypesTell, ValuesTell};
+ghost use Rattle.ruthvelka_c.specs.Types.{TellsExterns, TellsFunction, TellsSignature, TypesTell, ValuesTell};
 
 use crate::arrays::write_bytes;
 use crate::handles::{STATUS_DONE, STATUS_NO_MEMORY, STATUS_WRONG};
@@ -16,7 +16,7 @@ use crate::report::{Report, report_counts};
 use std::alloc::Global;
 use wasm_validator_handles::validator::ValType;
 use wasm_validator_handles::{
-    ExternType, Handle, Kept, ValueType, find_signature, gather_externs, tell_value,
+    ExternType, Handle, Kept, Signature, ValueType, find_signature, gather_externs, tell_value,
 };
 
 /// How many values a function takes and gives. C reads it as part of `struct ruthvelka_signature`.
@@ -127,10 +127,26 @@ fn tell_signature(
     ensures { TellsSignature (types_of (Just kept.now)) id counts.old counts.new params.old params.new
         results.old results.new result }
 {
-    let Some(types) = kept.types() else {
-        return STATUS_WRONG;
-    };
-    let Some(signature) = find_signature(types.as_ref().type_list(), id) else {
+    match kept.types() {
+        Some(types) => {
+            let found = find_signature(types.as_ref().type_list(), id);
+            tell_function(found, counts, params, results)
+        }
+        None => STATUS_WRONG,
+    }
+}
+
+fn tell_function(
+    found: Option<Signature<'_>>,
+    counts: &mut Counts,
+    params: &mut [ValueType],
+    results: &mut [ValueType],
+) -> u32
+    requires { IfSome found (λ s. s.start ≤ MOST_IDS) }
+    ensures { TellsFunction (option_map signature_by_ids found) counts.old counts.new params.old
+        params.new results.old results.new result }
+{
+    let Some(signature) = found else {
         return STATUS_WRONG;
     };
     counts.params = signature.params.len() as u64;

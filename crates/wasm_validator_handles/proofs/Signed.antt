@@ -1,18 +1,12 @@
 -- Function types that a list has under ids.
-use Rattle.std.proofs.Common.{◌≡◌, refl, sym, ap, ◌∙◌, ℕ, ◌<◌, ◌≤◌, List, length, slice_get, Some, None, arith}
+use Rattle.std.proofs.Common.{◌≡◌, refl, sym, ap, ◌∙◌, ℕ, ◌<◌, ◌≤◌, List, length, slice_get, Option, Some, None, IfSome, arith}
 use Rattle.std.specs.List.{slice_index_or}
 use Rattle.std.specs.declared.ops.Range.{Range}
 use Rattle.std.proofs.lemmas.Option.{slice_get_read, slice_get_past}
-use Rattle.wasm_spec.specs.Syntax.{map_comp}
+use Rattle.wasm_spec.specs.Syntax.{Val, map_comp}
 use Rattle.wasm_readers_types.specs.WasmReadersValues.declared.indices.TheConstants.{MAX_IDS}
 use Rattle.wasm_readers_types.specs.WasmReadersValues.declared.indices.CoreTypeId.{CoreTypeId}
 use Rattle.wasm_readers_types.specs.SeenTypes.{comp_of}
-use Rattle.wasm_readers_types.specs.declared.types.ArrayType.{ArrayType}
-use Rattle.wasm_readers_types.specs.declared.types.ContType.{ContType}
-use Rattle.wasm_readers_types.specs.declared.types.FuncType.{FuncType}
-use Rattle.wasm_readers_types.specs.declared.types.StructType.{StructType}
-use Rattle.wasm_readers_types.specs.declared.types.CompositeInnerType.{CompositeInnerType}
-use Rattle.wasm_readers_types.specs.declared.types.CompositeInnerType.TheVariants.{Func, Array, Struct, Cont}
 use Rattle.wasm_readers_types.specs.declared.types.SubType.{SubType}
 use Rattle.wasm_validator_type_list.specs.WasmValidatorTypeGroups.Groups.{all_in, first_of, IsInGroup}
 use Rattle.wasm_validator_type_list.specs.Lookups.{leads_to, group_span}
@@ -20,7 +14,8 @@ use Rattle.wasm_validator_type_list.specs.Declares.{sub_by_ids, subs_by_ids, dec
 use Rattle.wasm_validator_type_list.proofs.DefTypes.{first_of-within}
 use Rattle.wasm_validator_type_list.proofs.Declares.{declares-at}
 use Rattle.wasm_validator_type_list.proofs.Joined.{length-subs}
-use Rattle.wasm_validator_handles.specs.Signatures.{func_in, func_of_comp, values_by_ids}
+use Rattle.wasm_validator_handles.specs.declared.signatures.Signature.{Signature}
+use Rattle.wasm_validator_handles.specs.Signatures.{func_in, func_of_comp}
 
 module _ {A : Type 0} where
   -- a type that is read, in a group whose range of ids is read
@@ -33,23 +28,20 @@ module _ {A : Type 0} where
     read : slice_get (all_in gs) at ≡ Some ty
     read = slice_get_read (all_in gs) (length (all_in gs)) at ty refl there here
 
-    says : (c : CompositeInnerType A) → ty.composite_type.inner ≡ c → func_in (declares gs at) ≡ func_of_comp (map_comp (leads_to start) (comp_of c))
-    says c e =
-        ap func_in (declares-at gs k at ty in_group read) ∙ ap (λ n. func_in (Some (sub_by_ids n ty))) (sym from)
-        ∙ ap (λ (x : CompositeInnerType A). func_of_comp (map_comp (leads_to start) (comp_of x))) e
+    pub found : (o : Option (List (Val ℕ) × List (Val ℕ))) → o ≡ func_of_comp (map_comp (leads_to start) (comp_of ty.composite_type.inner))
+        → o ≡ func_in (declares gs at)
+    found o e =
+        e ∙ sym (ap func_in (declares-at gs k at ty in_group read) ∙ ap (λ n. func_in (Some (sub_by_ids n ty))) (sym from))
 
     pub start_within : length (all_in gs) ≤ MAX_IDS → start ≤ MAX_IDS
     start_within room = omega (arith, from, first_of-within gs k, room)
-
-    pub func_found : (f : FuncType A) → ty.composite_type.inner ≡ Func f
-        → Some (values_by_ids start f.params, values_by_ids start f.results) ≡ func_in (declares gs at)
-    func_found f e = sym (says (Func f) e)
-
-    pub other_found : (c : CompositeInnerType A) → ty.composite_type.inner ≡ c
-        → func_of_comp (map_comp (leads_to start) (comp_of c)) ≡ None → None ≡ func_in (declares gs at)
-    other_found c e none = sym (says c e ∙ none)
 
   -- behind the last id
   pub none_found : (gs : List (List (SubType A))) (id : ℕ) → length (all_in gs) ≤ id → None ≡ func_in (declares gs id)
   unfolding declares
   none_found gs id l = ap func_in (sym (slice_get_past (subs_by_ids 0 gs) id (omega (arith, l, length-subs gs 0))))
+
+-- what begins where a group does begins below the last id
+pub bounded : (o : Option Signature) (start : ℕ) → start ≤ MAX_IDS → IfSome o (λ s. s.start ≡ start) → IfSome o (λ s. s.start ≤ MAX_IDS)
+bounded (Some s) start l e = omega (arith, l, e)
+bounded None start l e = e

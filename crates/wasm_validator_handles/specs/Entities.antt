@@ -8,6 +8,7 @@ use Rattle.wasm_validator.specs.WasmValidatorTypes.Entities.{Entity}
 use Rattle.wasm_validator.specs.WasmValidatorTypes.Rows.{all_imports}
 use Rattle.wasm_validator.specs.WasmValidatorTypes.Spaces.{Spaces}
 use Rattle.wasm_validator.specs.WasmValidatorTypes.WasmValidatorTypeList.Lookups.{leads_to}
+use Rattle.wasm_validator_handles.specs.declared.entities.Extern.{Extern}
 use Rattle.wasm_validator_handles.specs.declared.entities.ExternType.{ExternType}
 use Rattle.wasm_validator_handles.specs.declared.entities.TheConstants.{FUNCTION, TABLE, MEMORY, GLOBAL, TAG, EXACT_FUNCTION, NO_ID}
 use Rattle.wasm_validator_handles.specs.declared.entities.TheConstants.{HAS_MAXIMUM, HAS_64_BITS, IS_SHARED, IS_MUTABLE, PAGE_SIZE_LOG2, EXTERN_SIZE}
@@ -108,6 +109,17 @@ extern_type_of names source name entity = record (entity_type_of entity) {
   module_length = length source;
   name_start = length (names ++ source);
   name_length = length name;
+}
+
+-- the names, the kind and the id of the type, without the rest of it
+abbrev pub plain_of : ExternType → Extern
+plain_of e = record {
+  module_start = e.module_start;
+  module_length = e.module_length;
+  name_start = e.name_start;
+  name_length = e.name_length;
+  kind = e.kind;
+  type_id = e.type_id;
 }
 
 -- exports as imports from a module with the empty name

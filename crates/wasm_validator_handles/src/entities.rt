@@ -6,7 +6,7 @@ ghost use Rattle.wasm_validator.specs.WasmValidatorTypes.Rows.{all_imports};
 ghost use Rattle.wasm_validator.specs.WasmValidatorTypes.Shown.{shown_by};
 ghost use Rattle.wasm_readers_types.specs.SeenExterns.{global_of, memory_of, table_of};
 ghost use Rattle.wasm_validator_handles.specs.Entities.{AreOf, Joins, counted, export_rows, extern_type_of};
-ghost use Rattle.wasm_validator_handles.specs.Entities.{by_id, entity_type_of, global_type_of, memory_type_of, table_type_of};
+ghost use Rattle.wasm_validator_handles.specs.Entities.{by_id, entity_type_of, global_type_of, limit_flags, memory_type_of, plain_of, table_type_of};
 
 use crate::values::{ValueType, no_value, tell_reference, tell_value};
 use std::alloc::{AllocError, Global};
@@ -61,6 +61,35 @@ pub struct ExternType {
     pub flags: u32,
     pub page_size_log2: u32,
     pub value: ValueType,
+}
+
+/// The same without its type, but for its kind and the id of a function type. C reads it as `struct
+/// ruthvelka_extern`.
+#[repr(C)]
+#[derive(Clone, Copy)]
+pub struct Extern {
+    pub module_start: u64,
+    pub module_length: u64,
+    pub name_start: u64,
+    pub name_length: u64,
+    pub kind: u32,
+    pub type_id: u32,
+}
+
+impl ExternType {
+    /// Without its type, but for its kind and the id of a function type.
+    pub fn plain(self) -> Extern
+        ensures { result ≡ plain_of self }
+    {
+        Extern {
+            module_start: self.module_start,
+            module_length: self.module_length,
+            name_start: self.name_start,
+            name_length: self.name_length,
+            kind: self.kind,
+            type_id: self.type_id,
+        }
+    }
 }
 
 /// The imports and the exports of a module, and all their names one after another.
@@ -129,9 +158,19 @@ pub fn gather_externs(alloc: Global, types: &TypesRef<'_>) -> Result<Externs, Al
         externs.exports.items externs.names.items) }
 {
     let mut externs = Externs::new(alloc);
-    push_imports(&mut externs.imports, &mut externs.names, types)?;
-    push_exports(&mut externs.exports, &mut externs.names, types)?;
+    fill(&mut externs, types)?;
     Ok(externs)
+}
+
+fn fill(externs: &mut Externs, types: &TypesRef<'_>) -> Result<(), AllocError>
+    requires imports { externs.old.imports.items ≡ [] }
+    requires exports { externs.old.exports.items ≡ [] }
+    requires names { externs.old.names.items ≡ [] }
+    ensures { OnOk result (AreOf (shown_by types.now).spaces externs.new.imports.items
+        externs.new.exports.items externs.new.names.items) }
+{
+    push_imports(&mut externs.imports, &mut externs.names, types)?;
+    push_exports(&mut externs.exports, &mut externs.names, types)
 }
 
 fn push_imports(

@@ -12,7 +12,7 @@ mod signatures;
 mod values;
 
 pub use entities::{
-    ExternType, Externs, count_exports, count_imports, gather_externs,
+    Extern, ExternType, Externs, count_exports, count_imports, gather_externs,
 };
 pub use handle::Handle;
 pub use kept::{Answer, Kept, NotAsked};

@@ -1,5 +1,5 @@
 use Rattle.std.proofs.Common.{◌≡◌, slice_get, Some, option_map}
-use Rattle.ruthvelka_c.specs.Externs.{plain_of}
+use Rattle.wasm_validator_handles.specs.Entities.{plain_of}
 use Rattle.ruthvelka_c.proofs.Reporting.{ToldUpto}
 use Rattle.ruthvelka_c.proofs.externs.write_externs.Given as goal
 
