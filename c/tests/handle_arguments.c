@@ -292,6 +292,9 @@ int main(void) {
     try_told();
     try_wrong();
     ruthvelka_types_release(&types), ruthvelka_types_release(&others), ruthvelka_validator_free(&validator);
+    freed = NULL;
+    ruthvelka_types_release(&types), ruthvelka_types_release(&others), ruthvelka_validator_free(&validator);
+    expect("nothing is freed twice", !freed);
     expect("all is given back", !arena.blocks && is_nothing(&types) && is_nothing(&others) && is_nothing(&validator));
     printf("%ld wrong arguments of handles\n", wrong);
     return wrong != 0;
