@@ -1,5 +1,4 @@
-use Rattle.std.proofs.Common.{ap, subst, ◌∙◌, ◌<◌, ℕ, Bool, false, length, arith}
-use Rattle.std.specs.Bool.{Decides}
+use Rattle.std.proofs.Common.{◌≡◌, sym, ap, ◌∙◌, ◌<◌, ℕ, true, false, length, arith}
 use Rattle.std.specs.Option.{option_map}
 use Rattle.wasm_validator.specs.WasmValidatorTypes.WasmValidatorTypeList.Declares.{declares}
 use Rattle.wasm_validator.specs.WasmValidatorTypes.WasmValidatorTypeList.Listing.{types_in}
@@ -21,6 +20,6 @@ returns-then-holds_id-clause-found c =
 pub returns-else-holds_id-clause-found : goal.returns-else-holds_id-clause-found
 returns-else-holds_id-clause-found c =
     let list = c.args.list.now in
-    let Below : Type 0 = c.from_index-id.result.index < length (types_in list) in
-    let none : Decides false Below = subst (λ (b : Bool). Decides b Below) c.if-holds_id.false c.holds_id.ensures in
+    let none : ¬ (c.from_index-id.result.index < length (types_in list)) =
+    λ p. let e : false ≡ true = sym c.if-holds_id.false ∙ c.holds_id.ensures.1 p in absurd cc in
     none_found list.groups c.args.id (omega (arith, none, c.from_index-id.ensures))
