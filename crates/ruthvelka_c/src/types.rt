@@ -143,7 +143,7 @@ fn tell_function(
     results: &mut [ValueType],
 ) -> u32
     requires { IfSome found (λ s. s.start ≤ MOST_IDS) }
-    ensures { TellsFunction (option_map signature_by_ids found) counts.old counts.new params.old
+    ensures { TellsFunction (option_map signature_by_ids found.entry) counts.old counts.new params.old
         params.new results.old results.new result }
 {
     let Some(signature) = found else {
