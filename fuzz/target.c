@@ -1,6 +1,7 @@
 /* target.c: what libFuzzer calls with each input, a module's bytes. Every call of ruthvelka.h is made on it, and what they say has to agree:
 
    - ruthvelka_validate, _with_ids, _with_externs and a list of this module alone: one verdict, one report;
+   - a validator behind a handle: the same verdict, and its types tell the imports and exports of version 1, each with what its kind has;
    - the same module twice in a list: twice the verdict, and the same ids; a list with questions: the same reports, and a type is below itself;
    - a set of features and one with more: what is valid under the first is valid under the second;
    - a refusal: its offset is in the bytes, and the missing feature is one that was off;
@@ -134,6 +135,52 @@ static void check_externs(const uint8_t *bytes, size_t length, uint64_t features
         CHECK(imports[i].name_start + imports[i].name_length <= report.names_length, "a name of an import");
 }
 
+/* What kept types say of an import or an export of version 1: the same names, kind and id, what its kind has, and a type that can be asked about. */
+static void check_type(struct ruthvelka_types *types, const struct ruthvelka_extern *wanted, const struct ruthvelka_extern_type *it) {
+    struct ruthvelka_signature signature = {sizeof signature, 0, 0};
+    struct ruthvelka_value_type params[8] = {{.size = sizeof params[0]}}, results[8] = {{.size = sizeof results[0]}};
+    const int has_limits = it->kind == RUTHVELKA_TABLE || it->kind == RUTHVELKA_MEMORY;
+    CHECK(it->size == sizeof *it && it->module_start == wanted->module_start && it->module_length == wanted->module_length
+        && it->name_start == wanted->name_start && it->name_length == wanted->name_length && it->kind == wanted->kind && it->type_id == wanted->type_id,
+        "kept types, names, kind and id");
+    CHECK(has_limits || (!it->minimum && !it->maximum), "kept types, limits of a table or a memory");
+    CHECK(it->flags & RUTHVELKA_HAS_MAXIMUM ? it->maximum >= it->minimum : !it->maximum, "kept types, a maximum");
+    CHECK((it->value.kind != 0) == (it->kind == RUTHVELKA_TABLE || it->kind == RUTHVELKA_GLOBAL), "kept types, a value type");
+    if (it->value.kind) CHECK(ruthvelka_types_matches(types, &it->value, &it->value) == RUTHVELKA_YES, "kept types, a value type matches itself");
+    const uint32_t status = ruthvelka_types_signature(types, it->type_id, &signature, params, 8, results, 8);
+    CHECK((status == RUTHVELKA_STATUS_DONE) == (it->type_id != RUTHVELKA_NO_ID), "kept types, a function type");
+    for (uint64_t i = 0; i < signature.params && i < 8; i++)
+        CHECK(ruthvelka_types_matches(types, &params[i], &params[i]) == RUTHVELKA_YES, "kept types, a parameter matches itself");
+    for (uint64_t i = 0; i < signature.results && i < 8; i++)
+        CHECK(ruthvelka_types_matches(types, &results[i], &results[i]) == RUTHVELKA_YES, "kept types, a result matches itself");
+}
+
+static void check_types(const uint8_t *bytes, size_t length, uint64_t features, const struct ruthvelka_report *wanted) {
+    struct ruthvelka_validator validator = RUTHVELKA_NOTHING;
+    struct ruthvelka_types types = RUTHVELKA_NOTHING;
+    struct ruthvelka_outcome outcome = {.size = sizeof outcome};
+    struct ruthvelka_report report;
+    struct ruthvelka_extern imports[8], exports[8];
+    struct ruthvelka_extern_type import_types[8] = {{.size = sizeof import_types[0]}}, export_types[8] = {{.size = sizeof export_types[0]}};
+    char names[ROOM], kept_names[ROOM];
+    if (ruthvelka_validator_new(&validator, features, NULL) != RUTHVELKA_STATUS_DONE) return;
+    const uint32_t status = ruthvelka_validator_validate(&validator, bytes, length, NULL, 0, &outcome, NULL);
+    CHECK((status == RUTHVELKA_STATUS_VALID) == (wanted->verdict == RUTHVELKA_VALID), "a validator's verdict");
+    CHECK((ruthvelka_validator_types(&validator, &types) == RUTHVELKA_STATUS_DONE) == (status == RUTHVELKA_STATUS_VALID), "a validator's last types");
+    ruthvelka_validator_free(&validator);
+    if (status == RUTHVELKA_STATUS_VALID) {
+        memset(names, MARK, sizeof names), memset(kept_names, MARK, sizeof kept_names);
+        ruthvelka_validate_with_externs(bytes, length, features, NULL, 0, &report, imports, 8, exports, 8, names, sizeof names);
+        CHECK(ruthvelka_types_externs(&types, &outcome, import_types, 8, export_types, 8, kept_names, sizeof kept_names) == RUTHVELKA_STATUS_DONE,
+            "kept types");
+        CHECK(outcome.imports == report.imports && outcome.exports == report.exports && outcome.names_length == report.names_length
+            && !memcmp(names, kept_names, sizeof names), "kept types, counts and names");
+        for (uint64_t i = 0; i < report.imports && i < 8; i++) check_type(&types, &imports[i], &import_types[i]);
+        for (uint64_t i = 0; i < report.exports && i < 8; i++) check_type(&types, &exports[i], &export_types[i]);
+    }
+    ruthvelka_types_release(&types);
+}
+
 int LLVMFuzzerTestOneInput(const uint8_t *bytes, size_t length) {
     if (getenv("FUZZ_PRINT")) {
         printf("%s\n", ruthvelka_validate(bytes, length, ALL, NULL, 0, NULL) == RUTHVELKA_VALID ? "valid" : "invalid");
@@ -148,6 +195,7 @@ int LLVMFuzzerTestOneInput(const uint8_t *bytes, size_t length) {
     CHECK(small.verdict != RUTHVELKA_VALID || large.verdict == RUTHVELKA_VALID, "more features don't make a valid module invalid");
     check_ids(bytes, length, more, &large);
     check_externs(bytes, length, more, &large);
+    check_types(bytes, length, more, &large);
     check_ids(bytes, length, fewer, &small);
     return 0;
 }

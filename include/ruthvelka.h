@@ -3,7 +3,7 @@
    A module is accepted exactly where it is valid under the WebAssembly Core Specification 3.0 and
    the enabled proposals, within fixed limits, and has nothing that is left out. docs/THEOREM.md of
    the repository has the exact statement; docs/PROVED.md says which part of this library is
-   proved: all but c/, some 400 lines of C that test the arguments, pass these calls on, write
+   proved: all but c/, some 450 lines of C that test the arguments, pass these calls on, write
    outcomes and take memory.
 
    How to use it. A program that loads modules makes a validator, gives it one module after
@@ -48,7 +48,8 @@
 
    Structures that grow. One that is read or written begins with its size, which the caller sets:
    `struct ruthvelka_outcome outcome = {sizeof outcome};`. A later version of the library writes no
-   more than that size, and an earlier one no more than it knows, so set the others to 0 before.
+   more than that size, and an earlier one no more than it knows, so set the others to 0 before. Of
+   an array of structures the caller sets the size of the first item, which is that of each.
 
    Memory comes from malloc, realloc and free, or from the allocator that a validator was made
    with. Where a request is refused the status is RUTHVELKA_STATUS_NO_MEMORY, or, where only a
@@ -64,13 +65,16 @@
    Threads. Calls on different validators, and on types from different ones, and all calls without
    a handle, may run side by side. What a call is given belongs to it until it returns; bytes and
    lists of modules are only read, so calls may share them. Make no call in a signal handler, and
-   none in an allocator.
+   none in an allocator. The bodies of a module are validated by the call on the module: what a
+   validator holds counts its holders without locks, so that two threads can't read it. Threads
+   validate several modules side by side, each by a validator of its own.
 
    Wrong calls. A pointer may be null where its count is 0; an outcome, and the handle for the types
    of a module, may always be null. Any other null pointer, a count of items that no object can have
-   (more than PTRDIFF_MAX bytes), an outcome whose size ends before its status does, a handle to be
-   filled that holds something, and a bit of `features` that no feature has make the status
-   RUTHVELKA_STATUS_WRONG, and nothing is written but an outcome. Calls that give no status say
+   (more than PTRDIFF_MAX bytes), an outcome whose size ends before its status does, an array whose
+   items are of another size than this library knows, a handle to be filled that holds something,
+   and a bit of `features` that no feature has make the status RUTHVELKA_STATUS_WRONG, and nothing
+   is written but an outcome. Calls that give no status say
    themselves what they do. Arrays that are written need not be initialized.
 
    Arrays that are written. Each comes with the count of items that there is room for in it. No
@@ -221,6 +225,8 @@ struct ruthvelka_outcome {
     /* how many of each the module has, imported ones among them; 0 where no types are told */
     uint64_t imports, exports;
     uint32_t types, functions, tables, memories, globals, tags;
+    /* ruthvelka_types_externs: how many bytes the names have; of any other call 0 */
+    uint64_t names_length;
 };
 
 /* ruthvelka_check: whether `length` bytes are a valid module under these features, by themselves.
@@ -298,6 +304,19 @@ uint32_t ruthvelka_validator_new(struct ruthvelka_validator *validator, uint64_t
                return refuse(i, &outcome); */
 uint32_t ruthvelka_validator_validate(struct ruthvelka_validator *validator, const uint8_t *bytes,
     size_t length, char *message, size_t message_room, struct ruthvelka_outcome *outcome,
+    struct ruthvelka_types *types);
+
+/* ruthvelka_validator_types: makes `types`, which holds nothing, hold the types of the last module
+   that this validator accepted, whatever it refused since. The validator itself holds them until it
+   accepts the next one, or is freed.
+
+   Result: DONE; NO_MEMORY or WRONG, and `types` still holds nothing. WRONG too where the validator
+   has accepted no module yet. Threads: the validator's.
+
+       struct ruthvelka_types types = RUTHVELKA_NOTHING;
+       if (ruthvelka_validator_types(&validator, &types) == RUTHVELKA_STATUS_DONE)
+           link(&types); */
+uint32_t ruthvelka_validator_types(struct ruthvelka_validator *validator,
     struct ruthvelka_types *types);
 
 /* ruthvelka_validator_reset: makes the validator ready for its next module, and says whether it
@@ -383,12 +402,18 @@ uint32_t ruthvelka_types_is_subtype(struct ruthvelka_types *types, uint32_t firs
 #define RUTHVELKA_HEAP_NOCONT 0x75
 #define RUTHVELKA_HEAP_ID 0 /* no abstract heap type: a type by its id */
 
-/* A value type. Types that are shared between threads, and exact ones, can't be written so. */
+/* What else a reference may say, as flags. */
+#define RUTHVELKA_HEAP_IS_SHARED 1 /* the abstract heap type is shared between threads */
+#define RUTHVELKA_HEAP_IS_EXACT 2  /* it is exactly the type with this id, and none below it */
+
+/* A value type. What isn't said of its kind is 0, so two that were written are one where their
+   bytes are. */
 struct ruthvelka_value_type {
-    uint64_t size; /* given: sizeof(struct ruthvelka_value_type) */
-    uint32_t kind; /* RUTHVELKA_I32 and so on */
-    uint32_t heap; /* of a reference: what it is to */
-    uint32_t id;   /* of a reference to a type by its id: the id */
+    uint64_t size;  /* given: sizeof(struct ruthvelka_value_type) */
+    uint32_t kind;  /* RUTHVELKA_I32 and so on */
+    uint32_t heap;  /* of a reference: what it is to */
+    uint32_t id;    /* of a reference to a type by its id: the id */
+    uint32_t flags; /* of a reference: RUTHVELKA_HEAP_IS_SHARED, RUTHVELKA_HEAP_IS_EXACT, or 0 */
 };
 
 /* ruthvelka_types_matches: whether the first value type matches the second one (Validation,
@@ -399,9 +424,9 @@ struct ruthvelka_value_type {
    or the handle holds none. Threads: the validator's.
 
        struct ruthvelka_value_type given = {sizeof given, RUTHVELKA_REFERENCE,
-           RUTHVELKA_HEAP_ID, id};
+           RUTHVELKA_HEAP_ID, id, 0};
        struct ruthvelka_value_type wanted = {sizeof wanted, RUTHVELKA_NULL_OR_REFERENCE,
-           RUTHVELKA_HEAP_FUNC, 0};
+           RUTHVELKA_HEAP_FUNC, 0, 0};
        if (ruthvelka_types_matches(&types, &given, &wanted) == RUTHVELKA_YES) store(); */
 uint32_t ruthvelka_types_matches(struct ruthvelka_types *types,
     const struct ruthvelka_value_type *first, const struct ruthvelka_value_type *second);
@@ -410,8 +435,8 @@ uint32_t ruthvelka_types_matches(struct ruthvelka_types *types,
    given where import number `imported` of the second one asks for something: whether its external
    type matches that of the import (Validation, Matching, External Types): functions by declared
    supertypes, tags by equal types, globals, tables and memories by what they hold, their limits
-   and their flags. Names aren't compared. Numbers are as ruthvelka_validate_with_externs has them,
-   from 0 on. The two modules are of one validator, and the handles two places. It takes time that
+   and their flags. Names aren't compared. Numbers are as ruthvelka_types_externs has them, from 0
+   on. The two modules are of one validator, and the handles two places. It takes time that
    grows with the numbers.
 
    Result: RUTHVELKA_YES where this is so; RUTHVELKA_NO everywhere else, also where there is no
@@ -423,13 +448,107 @@ uint32_t ruthvelka_types_matches(struct ruthvelka_types *types,
 uint32_t ruthvelka_types_entity_may_be_given(struct ruthvelka_types *exporter, uint32_t exported,
     struct ruthvelka_types *importer, uint32_t imported);
 
+/* The kinds of what is imported and exported, by their numbers in the binary format. */
+#define RUTHVELKA_FUNCTION 0
+#define RUTHVELKA_TABLE 1
+#define RUTHVELKA_MEMORY 2
+#define RUTHVELKA_GLOBAL 3
+#define RUTHVELKA_TAG 4
+#define RUTHVELKA_EXACT_FUNCTION 32
+    /* with CUSTOM_DESCRIPTORS: a function that has exactly its type, and not one below it */
+
+/* In place of the id of a type, where it is neither a function nor a tag. */
+#define RUTHVELKA_NO_ID UINT32_MAX
+
+/* What else an import or an export may be, as flags. */
+#define RUTHVELKA_HAS_MAXIMUM 1 /* a table or a memory: its size has a limit */
+#define RUTHVELKA_HAS_64_BITS 2 /* a table or a memory: its addresses have 64 bits, and not 32 */
+#define RUTHVELKA_IS_SHARED 4   /* a table, a memory or a global: threads may share it */
+#define RUTHVELKA_IS_MUTABLE 8  /* a global: it can be written */
+
+/* An import or an export: its names, which are parts of the text of all names, so many bytes from
+   that start on; and its whole type. What its kind doesn't have is 0. */
+struct ruthvelka_extern_type {
+    /* sizeof(struct ruthvelka_extern_type): given of the first item, and written */
+    uint64_t size;
+    /* an import: the name of the module that it is from; an export: the empty name */
+    uint64_t module_start, module_length;
+    /* its own name */
+    uint64_t name_start, name_length;
+    /* a table, in elements, or a memory, in pages: its limits */
+    uint64_t minimum, maximum;
+    /* RUTHVELKA_FUNCTION and so on */
+    uint32_t kind;
+    /* a function or a tag: the id of its function type; else RUTHVELKA_NO_ID */
+    uint32_t type_id;
+    /* RUTHVELKA_HAS_MAXIMUM and so on */
+    uint32_t flags;
+    /* a memory: the base-2 logarithm of a page's bytes, which is 16 unless the memory says another
+       one */
+    uint32_t page_size_log2;
+    /* a table: the type of its elements; a global: that of what it holds */
+    struct ruthvelka_value_type value;
+};
+
+/* ruthvelka_types_externs: writes the imports and the exports of the module, each with its whole
+   type, and their names, as far as there is room for each. The outcome tells how many there are
+   (imports, exports, names_length), and all else that it tells of a module.
+
+   The exports come in their order. The imports come by their pairs of names (of the module, and
+   their own), in the order in which the pairs first come, and those of one pair in their order: so
+   in the order of the module, unless a pair comes again behind another one. A link or a question
+   names an import or an export by its number here, from 0 on. The names stand in `names` one after
+   another, those of imports first: UTF-8, without a zero behind them, and of any characters, as in
+   a message. It takes time and memory that grow with all that there is, however little room there
+   is; the length of the module's bytes is always enough for all names.
+
+   Result: DONE; NO_MEMORY or WRONG, and none of the arrays changes. Threads: the validator's.
+
+       struct ruthvelka_extern_type imports[64] = {{sizeof imports[0]}};
+       char names[4096];
+       if (ruthvelka_types_externs(&types, &outcome, imports, 64, NULL, 0, names, sizeof names)
+               == RUTHVELKA_STATUS_DONE
+           && outcome.names_length <= sizeof names)
+           for (uint64_t i = 0; i < outcome.imports && i < 64; i++)
+               if (imports[i].kind == RUTHVELKA_MEMORY)
+                   reserve(imports[i].minimum << imports[i].page_size_log2); */
+uint32_t ruthvelka_types_externs(struct ruthvelka_types *types,
+    struct ruthvelka_outcome *outcome, struct ruthvelka_extern_type *imports, size_t import_room,
+    struct ruthvelka_extern_type *exports, size_t export_room, char *names, size_t name_room);
+
+/* How many values a function of a type takes and gives. All but the size is written. */
+struct ruthvelka_signature {
+    uint64_t size;    /* given: sizeof(struct ruthvelka_signature) */
+    uint64_t params;  /* how many values it takes */
+    uint64_t results; /* how many it gives */
+};
+
+/* ruthvelka_types_signature: writes the types of the values that a function of the type with this
+   id takes and gives, as far as there is room for each; the signature, which may be null, tells how
+   many there are. The id is one of this validator's: of an import or an export, of
+   ruthvelka_types_ids, or of a value type.
+
+   Result: DONE; or WRONG, and nothing is written, also where these types know no function type
+   under this id, or the signature's size ends before its results do. Threads: the validator's.
+
+       struct ruthvelka_signature signature = {sizeof signature, 0, 0};
+       struct ruthvelka_value_type params[2] = {{sizeof params[0]}};
+       if (ruthvelka_types_signature(&types, imports[i].type_id, &signature, params, 2, NULL, 0)
+               == RUTHVELKA_STATUS_DONE
+           && signature.params == 2 && !signature.results && params[0].kind == RUTHVELKA_I32
+           && params[1].kind == RUTHVELKA_I32)
+           give_host_function(i, write_to_console); */
+uint32_t ruthvelka_types_signature(struct ruthvelka_types *types, uint32_t id,
+    struct ruthvelka_signature *signature, struct ruthvelka_value_type *params, size_t param_room,
+    struct ruthvelka_value_type *results, size_t result_room);
+
 /* ----------------------------------------- Version 1 -------------------------------------------
 
    The calls below are deprecated: they stay for one version more. Their verdicts begin with 0 for
    a valid module, so a report that was set to 0 and never written reads as valid. ruthvelka_check
-   has what ruthvelka_validate has, and handles have what the lists have; only the names of imports
-   and exports have no other call yet. What is said above of outcomes holds of their reports, which
-   may be null; a wrong call gives RUTHVELKA_BAD_CALL, and writes nothing but its report. */
+   has what ruthvelka_validate has, and handles have all else. What is said above of outcomes holds
+   of their reports, which may be null; a wrong call gives RUTHVELKA_BAD_CALL, and writes nothing
+   but its report. */
 
 /* Verdicts. */
 #define RUTHVELKA_VALID 0        /* the bytes are a valid module */
@@ -500,18 +619,6 @@ uint32_t ruthvelka_validate(const uint8_t *bytes, size_t length, uint64_t featur
 uint32_t ruthvelka_validate_with_ids(const uint8_t *bytes, size_t length, uint64_t features,
     char *message, size_t message_room, struct ruthvelka_report *report, uint32_t *type_ids,
     size_t type_room, uint32_t *function_ids, size_t function_room);
-
-/* The kinds of what is imported and exported, by their numbers in the binary format. */
-#define RUTHVELKA_FUNCTION 0
-#define RUTHVELKA_TABLE 1
-#define RUTHVELKA_MEMORY 2
-#define RUTHVELKA_GLOBAL 3
-#define RUTHVELKA_TAG 4
-#define RUTHVELKA_EXACT_FUNCTION 32
-    /* with CUSTOM_DESCRIPTORS: a function that has exactly its type, and not one below it */
-
-/* In place of the id of a type, where it is neither a function nor a tag. */
-#define RUTHVELKA_NO_ID UINT32_MAX
 
 /* An import or an export. Its names are parts of the text of all names: so many bytes from that
    start on. */

@@ -51,7 +51,8 @@ static void try_ids(struct ruthvelka_types *many_types, struct ruthvelka_types *
 
 /* Whether a value type of these numbers matches one of those. */
 static int matches(struct ruthvelka_types *types, uint32_t kind, uint32_t heap, uint32_t id, uint32_t other_kind, uint32_t other_heap, uint32_t other_id) {
-    const struct ruthvelka_value_type first = {sizeof first, kind, heap, id}, second = {sizeof second, other_kind, other_heap, other_id};
+    const struct ruthvelka_value_type first = {sizeof first, kind, heap, id, 0},
+        second = {sizeof second, other_kind, other_heap, other_id, 0};
     return (int)ruthvelka_types_matches(types, &first, &second);
 }
 

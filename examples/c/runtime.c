@@ -8,37 +8,34 @@
 /* A module that was loaded: its types, and its imports or exports with all names. */
 struct loaded {
     struct ruthvelka_types types;
-    struct ruthvelka_extern *imports, *exports;
+    struct ruthvelka_extern_type *imports, *exports;
     uint64_t import_count, export_count;
     char *names;
 };
 
-/* Reads the names of a module that was accepted. Version 2 has no call for them yet. */
-static int read_names(const uint8_t *bytes, size_t length, struct loaded *module) {
-    struct ruthvelka_report report;
-    for (int round = 0; round < 2; round++) {
-        if (ruthvelka_validate_with_externs(bytes, length, RUTHVELKA_STANDARD, NULL, 0, &report, module->imports, module->import_count,
-                module->exports, module->export_count, module->names, round ? report.names_length : 0)
-            != RUTHVELKA_VALID)
-            return 0;
-        if (round) break;
-        module->import_count = report.imports, module->export_count = report.exports;
-        module->imports = calloc(report.imports + 1, sizeof *module->imports);
-        module->exports = calloc(report.exports + 1, sizeof *module->exports);
-        module->names = malloc(report.names_length + 1);
-        if (!module->imports || !module->exports || !module->names) exit(2);
-    }
-    return 1;
+/* Reads the names of a module that was accepted: first how many there are, and then they. */
+static int read_names(struct loaded *module) {
+    struct ruthvelka_outcome outcome = {.size = sizeof outcome};
+    if (ruthvelka_types_externs(&module->types, &outcome, NULL, 0, NULL, 0, NULL, 0) != RUTHVELKA_STATUS_DONE) return 0;
+    module->import_count = outcome.imports, module->export_count = outcome.exports;
+    module->imports = calloc(outcome.imports + 1, sizeof *module->imports);
+    module->exports = calloc(outcome.exports + 1, sizeof *module->exports);
+    module->names = malloc(outcome.names_length + 1);
+    if (!module->imports || !module->exports || !module->names) exit(2);
+    module->imports->size = module->exports->size = sizeof *module->imports;
+    return ruthvelka_types_externs(&module->types, &outcome, module->imports, module->import_count, module->exports, module->export_count,
+               module->names, outcome.names_length)
+        == RUTHVELKA_STATUS_DONE;
 }
 
 /* Links one import to the last module before that exports its name, and prints a line of it. */
 static void link_import(struct loaded *modules, int count, uint32_t number) {
     struct loaded *importer = &modules[count];
-    const struct ruthvelka_extern *wanted = &importer->imports[number];
+    const struct ruthvelka_extern_type *wanted = &importer->imports[number];
     const char *answer = "not exported";
     for (int it = count - 1; it >= 0 && !strcmp(answer, "not exported"); it--)
         for (uint32_t found = 0; found < modules[it].export_count; found++) {
-            const struct ruthvelka_extern *given = &modules[it].exports[found];
+            const struct ruthvelka_extern_type *given = &modules[it].exports[found];
             if (given->name_length != wanted->name_length
                 || memcmp(modules[it].names + given->name_start, importer->names + wanted->name_start, wanted->name_length))
                 continue;
@@ -57,7 +54,7 @@ static int load(struct ruthvelka_validator *validator, const char *file, struct 
     if (!bytes) return 0;
     const int is_loaded = ruthvelka_check(bytes, length, RUTHVELKA_STANDARD, NULL, 0, &outcome) == RUTHVELKA_STATUS_VALID
         && ruthvelka_validator_validate(validator, bytes, length, NULL, 0, &outcome, &modules[count].types) == RUTHVELKA_STATUS_VALID
-        && read_names(bytes, length, &modules[count]);
+        && read_names(&modules[count]);
     if (!is_loaded) printf("not loaded, for byte %llu\n", (unsigned long long)outcome.offset);
     for (uint32_t it = 0; is_loaded && it < modules[count].import_count; it++) link_import(modules, count, it);
     free(bytes);

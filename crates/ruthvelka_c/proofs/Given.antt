@@ -1,8 +1,9 @@
 -- The imports and exports that are told with an answer.
 use Rattle.std.proofs.Common.{ℕ, ◌≡◌, List, [], length, refl, sym, subst, arith}
 use Rattle.std.specs.declared.result.Result.TheVariants.{Ok, Err}
-use Rattle.ruthvelka_c.specs.declared.externs.Extern.{Extern}
-use Rattle.ruthvelka_c.specs.declared.externs.Externs as gathered
+use Rattle.wasm_validator_handles.specs.declared.entities.Extern.{Extern}
+use Rattle.wasm_validator_handles.specs.declared.entities.ExternType.{ExternType}
+use Rattle.wasm_validator_handles.specs.declared.entities.Externs as gathered
 use Rattle.ruthvelka_c.specs.declared.report.Report.{Report}
 use Rattle.ruthvelka_c.specs.Answers.{Answer}
 use Rattle.ruthvelka_c.specs.Arrays.{AreWritten, HasText}
@@ -22,8 +23,8 @@ gives (Ok t) e r i0 i1 x0 x1 n0 n1 g i x n l = record {
   names_length = l;
 }
 gives (Err error) e r i0 i1 x0 x1 n0 n1 g i x n l = record {
-  imports = subst (λ (es : List Extern). ExternsTell es i0 i1) g.0 i;
-  exports = subst (λ (es : List Extern). ExternsTell es x0 x1) g.1 x;
+  imports = subst (λ (es : List ExternType). ExternsTell es i0 i1) g.0 i;
+  exports = subst (λ (es : List ExternType). ExternsTell es x0 x1) g.1 x;
   names = subst (λ (ns : List ℕ). AreWritten ns n0 n1) g.2 n;
 }
 

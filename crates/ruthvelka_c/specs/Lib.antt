@@ -6,3 +6,4 @@ pub mod Queries
 pub mod Lists
 pub mod Names
 pub mod Handles
+pub mod Types

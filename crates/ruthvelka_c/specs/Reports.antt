@@ -1,5 +1,5 @@
 -- What a report tells of an answer.
-use Rattle.std.specs.Prelude.{ℕ, ◌≡◌, ◌-◌, ◌^◌, List, length, map, min, slice_index, Option, Some, None}
+use Rattle.std.specs.Prelude.{ℕ, ◌≡◌, List, length, map, slice_index, Option, Some, None}
 use Rattle.std.specs.Option.{unwrap_or}
 use Rattle.std.specs.declared.result.Result.TheVariants.{Ok, Err}
 use Rattle.wasm_readers_errors.specs.WasmReadersFeatures.declared.features.WasmFeatures.{WasmFeatures}
@@ -10,6 +10,7 @@ use Rattle.wasm_validator_handles.specs.WasmValidator.WasmValidatorCore.declared
 use Rattle.wasm_validator_handles.specs.WasmValidator.WasmValidatorCore.declared.error.Error.TheVariants.{Refused, DuplicateExport, InFunction, OutOfMemory}
 use Rattle.wasm_validator_handles.specs.WasmValidator.WasmValidatorCore.Errors.{offset_of, missing_of, function_of}
 use Rattle.wasm_validator_handles.specs.WasmValidator.Verdict.{DecidesAlone}
+use Rattle.wasm_validator_handles.specs.Entities.{counted}
 use Rattle.ruthvelka_c.specs.declared.report.Report.{Report}
 use Rattle.ruthvelka_c.specs.declared.report.TheConstants.{VALID, REFUSED, NO_MEMORY, NO_FUNCTION}
 use Rattle.ruthvelka_c.specs.Answers.{Answer}
@@ -37,10 +38,6 @@ module _ {A : Type 0} where
     pub offset : r.offset ≡ offset_of e
     pub missing : r.missing_features ≡ bits_of (missing_of e)
     pub function : r.function ≡ unwrap_or (function_of e) NO_FUNCTION
-
--- a count, as far as 64 bits count
-abbrev pub counted : ℕ → ℕ
-counted n = min n (2 ^ 64 - 1)
 
 -- an accepted module: how many items each of its index spaces has, and how many imports and exports there are
 pub record TellsCounts (spaces : Spaces) (r : Report) : Type 0 where

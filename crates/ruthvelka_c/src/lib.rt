@@ -19,11 +19,11 @@ mod lists;
 mod names;
 mod queries;
 mod report;
+mod types;
 
 use answers::{answer_alone, answer_list, write_ids};
 use arrays::write_numbers;
-pub use externs::{EXACT_FUNCTION, Extern, FUNCTION, GLOBAL, MEMORY, NO_ID, TABLE, TAG};
-use externs::{gather_externs, write_all};
+use externs::{gather_answer, write_all};
 pub use lists::Bytes;
 use lists::{gather_functions, gather_types, write_reports};
 use names::{all_features, find_feature, find_name, write_name};
@@ -32,6 +32,7 @@ pub use queries::{IS_SUBTYPE, MAY_BE_GIVEN, NO, Query, UNKNOWN, YES};
 use report::{report_no_memory, report_of, report_with_names, write_message};
 pub use report::{NO_FUNCTION, NO_MEMORY, NOT_CHECKED, REFUSED, Report, VALID};
 use std::alloc::Global;
+pub use wasm_validator_handles::Extern;
 use wasm_validator_handles::validator::{Flags, WasmFeatures};
 
 /// The version of the library, as major · 1,000,000 + minor · 1,000 + patch.
@@ -140,7 +141,7 @@ pub extern "C" fn ruthvelka_proved_validate_with_externs(
     ensures message { HasText report.new.message_length message.old message.new }
 {
     let answer = answer_alone(alloc, bytes, features);
-    match gather_externs(alloc, &answer) {
+    match gather_answer(alloc, &answer) {
         Ok(externs) => {
             let message_length = write_message(alloc, &answer, message);
             let names_length = write_all(&externs, imports, exports, names);

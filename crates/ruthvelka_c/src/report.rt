@@ -1,16 +1,16 @@
 //! What is told of one module.
 
-ghost use Rattle.std.specs.Prelude.{◌≡◌, length};
+ghost use Rattle.std.specs.Prelude.{◌≡◌};
 ghost use Rattle.std.specs.declared.result.Result.TheVariants.{Err};
 ghost use Rattle.wasm_validator_handles.specs.WasmValidator.WasmValidatorCore.declared.error.Error.TheVariants.{OutOfMemory};
 ghost use Rattle.ruthvelka_c.specs.Arrays.{HasText};
-ghost use Rattle.ruthvelka_c.specs.Reports.{Tells, TellsCounts, TellsRefusal, bits_of, counted, verdict_of};
-ghost use Rattle.wasm_validator_handles.specs.WasmValidator.WasmValidatorTypes.Rows.{all_imports};
+ghost use Rattle.ruthvelka_c.specs.Reports.{Tells, TellsCounts, TellsRefusal, bits_of, verdict_of};
 ghost use Rattle.wasm_validator_handles.specs.WasmValidator.WasmValidatorTypes.Shown.{shown_by};
 
 use crate::arrays::write_text;
 use std::alloc::Global;
 use wasm_validator_handles::validator::{Error, Flags, Types, TypesRef, WasmFeatures};
+use wasm_validator_handles::{count_exports, count_imports};
 
 /// The verdict where the bytes are a valid module.
 pub const VALID: u32 = 0;
@@ -75,34 +75,6 @@ pub fn report_no_memory() -> Report
     ensures message { result.message_length ≡ 0 }
 {
     report_refusal(&Error::OutOfMemory, 0)
-}
-
-/// How many imports the module has, as far as 64 bits count.
-fn count_imports(types: &TypesRef<'_>) -> u64
-    ensures { result ≡ counted (length (all_imports (shown_by types.now).spaces.imports)) }
-{
-    let mut count = 0u64;
-    let Some(mut imports) = types.core_imports() else {
-        return count;
-    };
-    'imports: while let Some(_) = imports.next() {
-        count = count.saturating_add(1);
-    }
-    count
-}
-
-/// How many exports the module has, as far as 64 bits count.
-fn count_exports(types: &TypesRef<'_>) -> u64
-    ensures { result ≡ counted (length (shown_by types.now).spaces.exports) }
-{
-    let mut count = 0u64;
-    let Some(mut exports) = types.core_exports() else {
-        return count;
-    };
-    'exports: while let Some(_) = exports.next() {
-        count = count.saturating_add(1);
-    }
-    count
 }
 
 /// The report on an accepted module, with no names.

@@ -4,3 +4,5 @@ pub mod Handle
 pub mod Keeping
 pub mod Values
 pub mod Pairs
+pub mod Entities
+pub mod Signatures

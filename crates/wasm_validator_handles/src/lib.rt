@@ -1,22 +1,29 @@
 //! What a caller without ownership keeps between calls: a validator, or the types of a module that
-//! it accepted, behind a handle of one word. `ruthvelka_c` gives such handles to C.
+//! it accepted, behind a handle of one word; and these types as numbers. `ruthvelka_c` gives both to
+//! C.
 #![tactic(auto)]
 
+mod entities;
 mod handle;
 mod kept;
 mod loose;
 mod pairs;
+mod signatures;
 mod values;
 
+pub use entities::{
+    Extern, ExternType, Externs, count_exports, count_imports, gather_externs,
+};
 pub use handle::Handle;
 pub use kept::{Answer, Kept, NotAsked};
 pub use pairs::{are_one, longer};
-pub use values::{ValueType, match_values};
+pub use signatures::{Signature, find_signature};
+pub use values::{MOST_IDS, ValueType, match_values, tell_value};
 
 /// The validator's items that a caller of this crate needs beside it.
 pub mod validator {
     pub use wasm_validator::{
-        CoreTypeId, EntityType, Error, Flags, TypeList, Types, TypesRef, Validator, ValidatorId,
-        WasmFeatures, validate_list,
+        CoreTypeId, EntityType, Error, Flags, TypeList, Types, TypesRef, ValType, Validator,
+        ValidatorId, WasmFeatures, validate_list,
     };
 }
