@@ -47,7 +47,7 @@ class Outcome(ctypes.Structure):
 
 
 class ValueType(ctypes.Structure):
-    _fields_ = [("size", ctypes.c_uint64)] + [(it, ctypes.c_uint32) for it in ("kind", "heap", "id")]
+    _fields_ = [("size", ctypes.c_uint64)] + [(it, ctypes.c_uint32) for it in ("kind", "heap", "id", "flags")]
 
 
 def place() -> str:

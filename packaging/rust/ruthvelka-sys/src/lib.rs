@@ -133,6 +133,7 @@ pub struct ValueType {
     pub kind: u32,
     pub heap: u32,
     pub id: u32,
+    pub flags: u32,
 }
 
 /// `struct ruthvelka_report`. By default it is that of a wrong call, and not of a valid module.

@@ -200,7 +200,7 @@ impl Types {
                 }
             }
         };
-        Some(sys::ValueType { size: std::mem::size_of::<sys::ValueType>() as u64, kind, heap, id })
+        Some(sys::ValueType { size: std::mem::size_of::<sys::ValueType>() as u64, kind, heap, id, flags: 0 })
     }
 
     /// Whether a value of the first type may stand where one of the second is wanted. It is false where an id is of another validator.
