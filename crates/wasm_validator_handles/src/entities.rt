@@ -10,9 +10,7 @@ ghost use Rattle.wasm_validator_handles.specs.Entities.{by_id, entity_type_of, g
 
 use crate::values::{ValueType, no_value, tell_reference, tell_value};
 use std::alloc::{AllocError, Global};
-use wasm_validator::{
-    CoreTypeId, EntityType, GlobalType, MemoryType, TableType, TypesRef,
-};
+use wasm_validator::{CoreTypeId, EntityType, GlobalType, MemoryType, TableType, TypesRef};
 
 /// The kind of a function, in the place of an import's or an export's.
 pub const FUNCTION: u32 = 0;

@@ -11,9 +11,7 @@ mod pairs;
 mod signatures;
 mod values;
 
-pub use entities::{
-    Extern, ExternType, Externs, count_exports, count_imports, gather_externs,
-};
+pub use entities::{Extern, ExternType, Externs, count_exports, count_imports, gather_externs};
 pub use handle::Handle;
 pub use kept::{Answer, Kept, NotAsked};
 pub use pairs::{are_one, longer};

@@ -11,10 +11,10 @@ returns-then-holds_id-clause-found c =
     let list = c.args.list.now in
     let there : c.from_index-id.result.index < length (types_in list) = omega arith in
     found list.groups c.rec_group_id_of-group.result.index c.from_index-id.result.index c.index-start.result
-        c.index.result.now c.index-then-holds_id.result.now
-        c.rec_group_id_of-group.ensures there c.index.ensures c.index-start.ensures c.index-then-holds_id.ensures
-        (option_map signature_by_ids c.read_signature.result)
-        c.read_signature.ensures.found
+    c.index.result.now c.index-then-holds_id.result.now
+    c.rec_group_id_of-group.ensures there c.index.ensures c.index-start.ensures c.index-then-holds_id.ensures
+    (option_map signature_by_ids c.read_signature.result)
+    c.read_signature.ensures.found
     ∙ ap (λ (n : ℕ). func_in (declares list.groups n)) c.from_index-id.ensures
 
 pub returns-else-holds_id-clause-found : goal.returns-else-holds_id-clause-found
