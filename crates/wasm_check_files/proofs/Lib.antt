@@ -1,2 +1,3 @@
 pub mod Told
 mod Room
+pub mod Named

@@ -1,5 +1,5 @@
 -- From the answers on files to what the status says of them, and from the statuses of parts to that of the whole.
-use Rattle.std.proofs.Common.{ℕ, suc, ◌≡◌, ◌+◌, ◌<◌, ◌≤◌, ◌⊎◌, ◌++◌, List, [], ◌∷◌, length, slice_get, Option, Some, None, true, false, inl, inr, refl, sym, ap, subst, ◌∙◌, arith, below_more, length-append}
+use Rattle.std.proofs.Common.{ℕ, ◌≡◌, ◌+◌, ◌≤◌, ◌⊎◌, ◌++◌, List, [], ◌∷◌, length, slice_get, Option, Some, None, inl, inr, refl, sym, ap, ◌∙◌, arith, below_more}
 use Rattle.std.specs.Prelude.{Any, ⊤}
 use Rattle.std.specs.List.{All}
 use Rattle.std.specs.declared.alloc.Global.{Global}
@@ -17,7 +17,8 @@ use Rattle.wasm_check_reports.specs.WasmValidateFiles.Answers.{LacksMemory, IsOk
 use Rattle.wasm_check_reports.proofs.WasmValidateFiles.Told.{all_accepted, all_answered}
 use Rattle.wasm_check_files.proofs.Room.{room_for_one}
 use Rattle.wasm_check_files.specs.Statuses.{status_of, status_at, IsWorst}
-use Rattle.wasm_check_files.specs.Checked.{StatusTells, WereChecked}
+use Rattle.wasm_check_files.proofs.Named.{files_behind, as_many_files}
+use Rattle.wasm_check_files.specs.Checked.{AreFilesOf, StatusTells, WereChecked}
 
 -- what the validator answers on a file
 abbrev Told : Type 0
@@ -82,20 +83,21 @@ module _ (features : WasmFeatures) where
         ];
   }
 
-  -- with the status of trouble nothing is said of files
-  pub troubled : (room : List (Input Global) → Type 0) (count : ℕ) → WereChecked features room count 2
-  troubled room count = record {
-    files = [];
-    each = λ other. absurd (other refl);
-    tells = record { known = omega arith; accepted = λ e. absurd (omega (arith, e)); refused = λ e. absurd (omega (arith, e)) };
-  }
+  module _ (gives : List ℕ → List ℕ → Type 0) where
+    -- with the status of trouble nothing is said of files
+    pub troubled : (room : List (Input Global) → Type 0) (names : List (List ℕ)) → WereChecked features room gives names 2
+    troubled room names = record {
+      files = [];
+      each = λ other. absurd (other refl);
+      tells = record { known = omega arith; accepted = λ e. absurd (omega (arith, e)); refused = λ e. absurd (omega (arith, e)) };
+    }
 
-  pub none_checked : (room : List (Input Global) → Type 0) → WereChecked features room 0 0
-  none_checked room = record {
-    files = [];
-    each = λ other. refl;
-    tells = record { known = omega arith; accepted = λ e. All-nil (IsAccepted features); refused = λ e. absurd (omega (arith, e)) };
-  }
+    pub none_checked : (room : List (Input Global) → Type 0) → WereChecked features room gives [] 0
+    none_checked room = record {
+      files = [];
+      each = λ other. tt;
+      tells = record { known = omega arith; accepted = λ e. All-nil (IsAccepted features); refused = λ e. absurd (omega (arith, e)) };
+    }
 
   all_left : (xs ys : List (Input Global)) → AreAllAccepted features (xs ++ ys) → AreAllAccepted features xs
   all_left [] ys a = All-nil (IsAccepted features)
@@ -111,8 +113,10 @@ module _ (features : WasmFeatures) where
   room_alone (f ∷ g ∷ fs) e = absurd (omega (arith, e))
 
   -- files that were checked each by its own validator, and one more
-  pub one_more : (i n s t r : ℕ) → WereChecked features (λ _. ⊤) i s → WereChecked features (HasRoomForAll features) n t → n ≡ 1 → s ≤ r → t ≤ r → (r ≡ s) ⊎ (r ≡ t) → WereChecked features (λ _. ⊤) (i + 1) r
-  one_more i n s t r before one single a b which =
+  pub one_more :
+      (gives : List ℕ → List ℕ → Type 0) (ms ns : List (List ℕ)) (s t r : ℕ) → WereChecked features (λ _. ⊤) gives ms s → WereChecked features (HasRoomForAll features) gives ns t
+      → length ns ≡ 1 → s ≤ r → t ≤ r → (r ≡ s) ⊎ (r ≡ t) → WereChecked features (λ _. ⊤) gives (ms ++ ns) r
+  one_more gives ms ns s t r before one single a b which =
       let known : r ≤ 2 =
       (let k = before.tells.known in
       let l = one.tells.known in
@@ -121,10 +125,7 @@ module _ (features : WasmFeatures) where
         files = before.files ++ one.files;
         each = λ other.
             let small : r ≤ 1 = not_two r known other in
-            let p : length before.files ≡ i = before.each (λ e. omega (arith, e, a, small)) in
-            let q : length one.files ≡ n = one.each (λ e. omega (arith, e, b, small)) in
-            let whole = length-append before.files one.files in
-            omega (arith, p, q, whole, single);
+            files_behind gives ms ns before.files one.files (before.each (λ e. omega (arith, e, a, small))) (one.each (λ e. omega (arith, e, b, small)));
         tells = record {
           known = known;
           accepted = λ e. All-append (IsAccepted features) before.files one.files (before.tells.accepted (omega (arith, e, a))) (one.tells.accepted (omega (arith, e, b)));
@@ -133,7 +134,7 @@ module _ (features : WasmFeatures) where
                 | inl same ↦ before.tells.refused (sym same ∙ e) tt (all_left before.files one.files accepted)
                 | inr same ↦
                     let is_one : t ≡ 1 = sym same ∙ e in
-                    let alone : length one.files ≡ n = one.each (λ two. omega (arith, is_one, two)) in
+                    let alone : length one.files ≡ length ns = as_many_files gives ns one.files (one.each (λ two. omega (arith, is_one, two))) in
                     one.tells.refused is_one (room_alone one.files (alone ∙ single)) (all_right before.files one.files accepted)
               ];
         };
@@ -143,5 +144,7 @@ module _ (features : WasmFeatures) where
       not_two r k other = omega (arith, k, other)
 
   -- all files that were named were read
-  pub all_checked : (room : List (Input Global) → Type 0) (files : List (Input Global)) (count s : ℕ) → length files ≡ count → StatusTells features room files s → WereChecked features room count s
-  all_checked room files count s all tells = record { files = files; each = λ _. all; tells = tells }
+  pub all_checked :
+      (room : List (Input Global) → Type 0) (gives : List ℕ → List ℕ → Type 0) (files : List (Input Global)) (names : List (List ℕ)) (s : ℕ)
+      → AreFilesOf gives names files → StatusTells features room files s → WereChecked features room gives names s
+  all_checked room gives files names s all tells = record { files = files; each = λ _. all; tells = tells }

@@ -1,16 +1,15 @@
 //! Files are checked, and the exit status says what was found.
 
-ghost use Rattle.std.specs.Prelude.{◌≡◌, ◌≤◌, ◌⊎◌, IfOk, length, Some, ⊤};
+ghost use Rattle.std.specs.Prelude.{◌≡◌, ◌≤◌, ◌⊎◌, IfOk, map, string_bytes, Some, ⊤};
 ghost use Rattle.std.specs.List.{All};
 ghost use Rattle.wasm_check_reports.specs.WasmValidateFiles.Files.{IsRead, HasRoomForAll};
 ghost use Rattle.wasm_check_files.specs.Checked.{StatusTells, WereChecked, room_for};
 ghost use Rattle.wasm_check_files.specs.Statuses.{IsWorst, status_at, status_of, status_of_error};
 
 use crate::progress::Progress;
-use crate::read::{read_file, shown_name};
+use crate::read::{Source, shown_name};
 use std::alloc::{AllocError, Global};
 use std::io::{self, Write};
-use std::rt::Files;
 use std::slice;
 use wasm_check_reports::files::validator::Error;
 use wasm_check_reports::files::{
@@ -21,7 +20,7 @@ use wasm_check_reports::{Form, Settings, Summary, write_report, write_summary, w
 /// Checks the files with these names, in order, and prints of each what is asked for. A file that
 /// can't be read is told on `err` with the reason. `progress` is shown how many were checked by a
 /// validator of their own. The answer is the exit status.
-pub fn check_files<R: Files + io::Input + AllocGlobal, W: Write, E: Write, P: Progress>(
+pub fn check_files<R: Source + AllocGlobal, W: Write, E: Write, P: Progress>(
     rt: &R,
     names: &[&str],
     settings: &Settings,
@@ -30,7 +29,8 @@ pub fn check_files<R: Files + io::Input + AllocGlobal, W: Write, E: Write, P: Pr
     progress: &mut P,
 ) -> u8
     ensures told { WereChecked settings.now.features
-        (room_for settings.now.features settings.now.is_shared) (length names.now) result }
+        (room_for settings.now.features settings.now.is_shared) (R.gives rt.now)
+        (map (λ name. name.now) names.now) result }
     ensures silent { (result ≡ STATUS_TROUBLE → ⊥) → err.new ≡ err.old }
     ensures quiet { settings.now.form ≡ Form.Quiet → out.new ≡ out.old }
 {
@@ -46,7 +46,7 @@ pub fn check_files<R: Files + io::Input + AllocGlobal, W: Write, E: Write, P: Pr
 
 /// Checks files, by one validator or each by its own, as is asked for, and prints how many ended in
 /// which way.
-fn check_all<R: Files + io::Input + AllocGlobal, W: Write, E: Write, P: Progress>(
+fn check_all<R: Source + AllocGlobal, W: Write, E: Write, P: Progress>(
     rt: &R,
     names: &[&str],
     settings: &Settings,
@@ -55,7 +55,8 @@ fn check_all<R: Files + io::Input + AllocGlobal, W: Write, E: Write, P: Progress
     progress: &mut P,
 ) -> io::Result<u8>
     ensures told { IfOk result (WereChecked settings.now.features
-        (room_for settings.now.features settings.now.is_shared) (length names.now)) }
+        (room_for settings.now.features settings.now.is_shared) (R.gives rt.now)
+        (map (λ name. name.now) names.now)) }
     ensures silent { IfOk result (λ status. (status ≡ STATUS_TROUBLE → ⊥) → err.new ≡ err.old) }
     ensures quiet { settings.now.form ≡ Form.Quiet → out.new ≡ out.old }
 {
@@ -66,7 +67,7 @@ fn check_all<R: Files + io::Input + AllocGlobal, W: Write, E: Write, P: Progress
 }
 
 /// Checks files, and counts them.
-fn check_named<R: Files + io::Input + AllocGlobal, W: Write, E: Write, P: Progress>(
+fn check_named<R: Source + AllocGlobal, W: Write, E: Write, P: Progress>(
     rt: &R,
     names: &[&str],
     settings: &Settings,
@@ -76,7 +77,8 @@ fn check_named<R: Files + io::Input + AllocGlobal, W: Write, E: Write, P: Progre
     progress: &mut P,
 ) -> io::Result<u8>
     ensures told { IfOk result (WereChecked settings.now.features
-        (room_for settings.now.features settings.now.is_shared) (length names.now)) }
+        (room_for settings.now.features settings.now.is_shared) (R.gives rt.now)
+        (map (λ name. name.now) names.now)) }
     ensures silent { IfOk result (λ status. (status ≡ STATUS_TROUBLE → ⊥) → err.new ≡ err.old) }
     ensures quiet { settings.now.form ≡ Form.Quiet → out.new ≡ out.old }
 {
@@ -107,7 +109,7 @@ fn print_summary<W: Write>(
 }
 
 /// Checks files, each by a validator of its own.
-fn check_each<R: Files + io::Input + AllocGlobal, W: Write, E: Write, P: Progress>(
+fn check_each<R: Source + AllocGlobal, W: Write, E: Write, P: Progress>(
     rt: &R,
     names: &[&str],
     settings: &Settings,
@@ -116,7 +118,8 @@ fn check_each<R: Files + io::Input + AllocGlobal, W: Write, E: Write, P: Progres
     err: &mut E,
     progress: &mut P,
 ) -> io::Result<u8>
-    ensures told { IfOk result (WereChecked settings.now.features (λ _. ⊤) (length names.now)) }
+    ensures told { IfOk result (WereChecked settings.now.features (λ _. ⊤) (R.gives rt.now)
+        (map (λ name. name.now) names.now)) }
     ensures silent { IfOk result (λ status. (status ≡ STATUS_TROUBLE → ⊥) → err.new ≡ err.old) }
     ensures quiet { settings.now.form ≡ Form.Quiet → out.new ≡ out.old }
 {
@@ -132,7 +135,7 @@ fn check_each<R: Files + io::Input + AllocGlobal, W: Write, E: Write, P: Progres
 }
 
 /// Checks files by one validator.
-fn check_group<R: Files + io::Input + AllocGlobal, W: Write, E: Write>(
+fn check_group<R: Source + AllocGlobal, W: Write, E: Write>(
     rt: &R,
     names: &[&str],
     settings: &Settings,
@@ -141,13 +144,14 @@ fn check_group<R: Files + io::Input + AllocGlobal, W: Write, E: Write>(
     err: &mut E,
 ) -> io::Result<u8>
     ensures told { IfOk result (WereChecked settings.now.features
-        (HasRoomForAll settings.now.features) (length names.now)) }
+        (HasRoomForAll settings.now.features) (R.gives rt.now)
+        (map (λ name. name.now) names.now)) }
     ensures silent { IfOk result (λ status. (status ≡ STATUS_TROUBLE → ⊥) → err.new ≡ err.old) }
     ensures quiet { settings.now.form ≡ Form.Quiet → out.new ≡ out.old }
 {
     let mut files = Vec::with_capacity(rt.alloc(), names.len())?;
     'names: for name in names {
-        match read_file(rt, name) {
+        match rt.read_named(name) {
             Ok(bytes) => files.push(input_of(rt.alloc(), name, bytes)?)?,
             Err(error) => {
                 summary.count_unread();
@@ -164,7 +168,9 @@ fn check_group<R: Files + io::Input + AllocGlobal, W: Write, E: Write>(
 
 /// A file that was read.
 fn input_of(alloc: Global, name: &str, bytes: Vec<u8>) -> Result<Input, AllocError>
-    ensures { IfOk result IsRead }
+    ensures read { IfOk result IsRead }
+    ensures name { IfOk result (λ f. string_bytes f.name ≡ name.now) }
+    ensures bytes { IfOk result (λ f. f.bytes ≡ Some bytes) }
 {
     Ok(Input {
         name: String::from_str(alloc, name)?,

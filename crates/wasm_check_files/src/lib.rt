@@ -13,7 +13,7 @@ pub use check::{check_files, check_inputs};
 pub use features::{Flags, WasmFeatures, select_features, wasm3};
 pub use folders::{Found, find_files};
 pub use progress::Progress;
-pub use read::{NO_TEXT, read_known_size};
+pub use read::{NO_TEXT, Source, read_known_size};
 pub use suggestions::nearest_feature;
 pub use wasm_check_reports::files::{
     Input, Printable, STATUS_OK, STATUS_REFUSED, STATUS_TROUBLE, Word, read_words,

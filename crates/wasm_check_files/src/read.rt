@@ -11,18 +11,40 @@ use std::rt::Files;
 /// has it otherwise.
 pub const NO_TEXT: char = '\0';
 
-/// The bytes of the file with this name, and of standard input for `-`.
-pub fn read_file<R: Files + io::Input + AllocGlobal>(rt: &R, name: &str) -> io::Result<Vec<u8>> {
-    if name == "-" {
-        return read_known_size(rt.alloc(), &mut rt.reader(), 0);
+/// Where files are read from, by their names.
+pub trait Source {
+    ghost use Rattle.std.specs.Prelude.{ℕ, List, IfOk};
+
+    ghost gives: { Self → List ℕ → List ℕ → Type 0 };
+
+    /// Bytes that this source gives for the name.
+    ///
+    /// # Errors
+    ///
+    /// Where there is nothing of this name, or it can't be read.
+    fn read_named(&self, name: &str) -> io::Result<Vec<u8>>
+        ensures { IfOk result (λ bytes. gives self.now name.now bytes.items) };
+}
+
+// What a file system has under a name, and what stands on standard input, is not known to a proof, so
+// nothing is said of what is given: that is the file's bytes because this function opens that file.
+impl<R: Files + io::Input + AllocGlobal> Source for R {
+    ghost use Rattle.std.specs.Prelude.{⊤};
+
+    ghost gives = { λ _ _ _. ⊤ };
+
+    fn read_named(&self, name: &str) -> io::Result<Vec<u8>> {
+        if name == "-" {
+            return read_known_size(self.alloc(), &mut self.reader(), 0);
+        }
+        if name.ends_with(NO_TEXT) {
+            let message = "the name is not UTF-8";
+            return Err(io::Error::new(io::ErrorKind::InvalidInput, message));
+        }
+        let mut file = fs::open(self, name)?;
+        let size = file.metadata()?.len();
+        read_known_size(self.alloc(), &mut file, size)
     }
-    if name.ends_with(NO_TEXT) {
-        let message = "the name is not UTF-8";
-        return Err(io::Error::new(io::ErrorKind::InvalidInput, message));
-    }
-    let mut file = fs::open(rt, name)?;
-    let size = file.metadata()?.len();
-    read_known_size(rt.alloc(), &mut file, size)
 }
 
 /// What a file is called where it's spoken of.

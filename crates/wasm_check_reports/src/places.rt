@@ -1,7 +1,7 @@
 //! Where in a module an offset is.
 
-ghost use Rattle.std.specs.Prelude.{◌≤◌, IfSome};
-ghost use Rattle.wasm_check_reports.specs.Places.{IsIn};
+ghost use Rattle.std.specs.Prelude.{◌≡◌, ◌≤◌, ◌-◌, IfSome, drop, length, min, take};
+ghost use Rattle.wasm_check_reports.specs.Places.{IsIn, before, from, section_name};
 
 use std::cmp;
 use wasm_validate_files::validator::BinaryReader;
@@ -78,7 +78,9 @@ fn next_section(reader: &mut BinaryReader<'_>) -> Option<Section> {
 }
 
 /// What the standard calls a section of this id.
-pub fn section_name<'a>(id: u8) -> &'a str {
+pub fn section_name<'a>(id: u8) -> &'a str
+    ensures { result.now ≡ section_name id }
+{
     match id {
         0 => "custom",
         1 => "type",
@@ -99,7 +101,10 @@ pub fn section_name<'a>(id: u8) -> &'a str {
 }
 
 /// The bytes around an offset: up to eight in front of it, and up to eight from it on.
-pub fn bytes_around(bytes: &[u8], offset: u64) -> (&[u8], &[u8]) {
+pub fn bytes_around(bytes: &[u8], offset: u64) -> (&[u8], &[u8])
+    ensures front { result.0.now ≡ before offset bytes.now }
+    ensures back { result.1.now ≡ from offset bytes.now }
+{
     let at = match usize::try_from(offset) {
         Ok(at) => cmp::min(at, bytes.len()),
         Err(_) => bytes.len(),
@@ -108,12 +113,16 @@ pub fn bytes_around(bytes: &[u8], offset: u64) -> (&[u8], &[u8]) {
     (last_of(front), first_of(back))
 }
 
-fn last_of(bytes: &[u8]) -> &[u8] {
+fn last_of(bytes: &[u8]) -> &[u8]
+    ensures { result.now ≡ drop (length bytes.now - 8) bytes.now }
+{
     let (_, last) = bytes.split_at(bytes.len().saturating_sub(BESIDE));
     last
 }
 
-fn first_of(bytes: &[u8]) -> &[u8] {
+fn first_of(bytes: &[u8]) -> &[u8]
+    ensures { result.now ≡ take (min (length bytes.now) 8) bytes.now }
+{
     let (first, _) = bytes.split_at(cmp::min(bytes.len(), BESIDE));
     first
 }

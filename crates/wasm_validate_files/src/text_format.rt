@@ -2,11 +2,13 @@
 //! aren't a module.
 
 ghost use Rattle.std.specs.Prelude.{◌≡◌};
-ghost use Rattle.wasm_validate_files.specs.TextFormat.{is_space, opens_text, looks_like_text};
+ghost use Rattle.wasm_validate_files.specs.TextFormat.{hint_of, is_space, opens_text, looks_like_text};
 
 /// What stands behind the message where bytes are refused that look like the text format, and nothing
 /// behind the message of others.
-pub fn hint_of<'a>(bytes: &[u8]) -> &'a str {
+pub fn hint_of<'a>(bytes: &[u8]) -> &'a str
+    ensures { result.now ≡ hint_of bytes.now }
+{
     if looks_like_text(bytes) {
         "; this looks like the text format, which is not read"
     } else {

@@ -1,7 +1,8 @@
-use Rattle.std.proofs.Common.{length}
+use Rattle.std.proofs.Common.{map}
 use Rattle.wasm_check_files.specs.Checked.{room_for}
 use Rattle.wasm_check_files.proofs.Told.{troubled}
 use Rattle.wasm_check_files.proofs.check.check_files.Goals as goal
 
 pub returns-in-Err-clause-told : goal.returns-in-Err-clause-told
-returns-in-Err-clause-told g c = troubled c.args.settings.now.features (room_for c.args.settings.now.features c.args.settings.now.is_shared) (length c.args.names.now)
+returns-in-Err-clause-told g c =
+    troubled c.args.settings.now.features (g.R.Source.gives c.args.rt.now) (room_for c.args.settings.now.features c.args.settings.now.is_shared) (map (λ name. name.now) c.args.names.now)
