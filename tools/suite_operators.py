@@ -22,7 +22,19 @@ PREFIXED = {
     0xFD: [((*range(12), *range(0x54, 0x5E)), "Memory"), (range(0x200), "Vector")],
     0xFE: [(range(0x4F), "Threads Proposal, Validation"), (range(0x4F, 0x80), "Shared-Everything Threads Proposal, Validation")],
 }
+LEGACY = "Legacy Exception Handling Proposal"
 OF_LEGACY = (0x06, 0x07, 0x09, 0x18, 0x19)
+
+
+def section_of(name):
+    """The section of operators that are called this here."""
+    whole = name if name.endswith("Sequences") else f"{name} Instructions"
+    return name if not name or "Proposal" in name else f"Validation, Instructions, {whole}"
+
+
+def all_sections():
+    """Each section that an operator may have."""
+    return {section_of(name) for rows in (PLAIN, *PREFIXED.values()) for _, name in rows} | {LEGACY}
 
 
 def section_at(module, offset):
@@ -31,12 +43,10 @@ def section_at(module, offset):
         return ""
     code, number, rows = module[offset], module[offset], PLAIN
     if code in OF_LEGACY:
-        return "Legacy Exception Handling Proposal"
+        return LEGACY
     if code in PREFIXED:
         try:
             number, rows = unsigned_at(module, offset + 1, 32)[0], PREFIXED[code]
         except (Bad, IndexError):
             return ""
-    found = next((name for numbers, name in rows if number in numbers), "")
-    whole = found if found.endswith("Sequences") else f"{found} Instructions"
-    return found if not found or "Proposal" in found else f"Validation, Instructions, {whole}"
+    return section_of(next((name for numbers, name in rows if number in numbers), ""))
