@@ -4,11 +4,12 @@
 
 ghost use Rattle.std.specs.Prelude.{◌≡◌, ◌≤◌, map};
 ghost use Rattle.bitflags.specs.Sets.{known_bits};
+ghost use Rattle.wasm_validator_handles.specs.Names.{bits_named};
 ghost use Rattle.wasm_validator_handles.specs.WasmValidator.Verdict.{AreModule, AreNoModule};
 ghost use Rattle.ruthvelka_c.specs.Arrays.{HasText};
 ghost use Rattle.ruthvelka_c.specs.Externs.{ToldWithExterns};
 ghost use Rattle.ruthvelka_c.specs.Lists.{ToldList, ToldQueries, bytes_of};
-ghost use Rattle.ruthvelka_c.specs.Names.{HasName, bits_named};
+ghost use Rattle.ruthvelka_c.specs.Names.{HasName};
 ghost use Rattle.ruthvelka_c.specs.Reports.{Told, ToldWithIds, flags};
 
 mod answers;
@@ -16,17 +17,16 @@ mod arrays;
 mod externs;
 mod handles;
 mod lists;
-mod names;
 mod queries;
 mod report;
+mod sections;
 mod types;
 
 use answers::{answer_alone, answer_list, write_ids};
-use arrays::write_numbers;
+use arrays::{write_name, write_numbers};
 use externs::{gather_answer, write_all};
 pub use lists::Bytes;
 use lists::{gather_functions, gather_types, write_reports};
-use names::{all_features, find_feature, find_name, write_name};
 use queries::answer_queries;
 pub use queries::{IS_SUBTYPE, MAY_BE_GIVEN, NO, Query, UNKNOWN, YES};
 use report::{report_no_memory, report_of, report_with_names, write_message};
@@ -34,6 +34,7 @@ pub use report::{NO_FUNCTION, NO_MEMORY, NOT_CHECKED, REFUSED, Report, VALID};
 use std::alloc::Global;
 pub use wasm_validator_handles::Extern;
 use wasm_validator_handles::validator::{Flags, WasmFeatures};
+use wasm_validator_handles::{all_features, find_feature, find_name};
 
 /// The version of the library, as major · 1,000,000 + minor · 1,000 + patch.
 #[unsafe(no_mangle)]
@@ -156,10 +157,9 @@ pub extern "C" fn ruthvelka_proved_validate_with_externs(
 }
 
 /// Validates modules one after another by one validator with these proposals, as far as it goes, and
-/// reports on each, as far as there is room. The ids of the types, and of the types of the
-/// functions, of all accepted modules come one module after another, as far as there is room. The
-/// result is `VALID` where this was done, whatever the verdicts are, and `NO_MEMORY` where memory for
-/// the list itself was refused; then nothing is written.
+/// reports on each. The ids of the types, and of the types of the functions, of all accepted modules
+/// come one module after another, all as far as there is room. The result is `VALID` where this was
+/// done, whatever the verdicts are, and `NO_MEMORY` where memory was refused: nothing is written then.
 #[unsafe(no_mangle)]
 pub extern "C" fn ruthvelka_proved_validate_list(
     alloc: Global,
@@ -188,8 +188,7 @@ pub extern "C" fn ruthvelka_proved_validate_list(
     VALID
 }
 
-/// The same, but writes no ids: instead it answers questions about the types, the exports and the
-/// imports of accepted modules, each in its place.
+/// The same with answers to questions about accepted modules, each in its place, and no ids.
 #[unsafe(no_mangle)]
 pub extern "C" fn ruthvelka_proved_validate_list_with_queries(
     alloc: Global,
