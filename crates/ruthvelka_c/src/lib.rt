@@ -2,13 +2,13 @@
 //! here it is stated and proved, by the clauses of the validator itself.
 #![tactic(auto)]
 
-ghost use Rattle.std.specs.Prelude.{◌≡◌, ◌≤◌, map};
+ghost use Rattle.std.specs.Prelude.{◌≡◌, ◌≤◌, ◌⊎◌, length, map};
 ghost use Rattle.bitflags.specs.Sets.{known_bits};
 ghost use Rattle.wasm_validator_handles.specs.Names.{bits_named};
 ghost use Rattle.wasm_validator_handles.specs.WasmValidator.Verdict.{AreModule, AreNoModule};
 ghost use Rattle.ruthvelka_c.specs.Arrays.{HasText};
 ghost use Rattle.ruthvelka_c.specs.Externs.{ToldWithExterns};
-ghost use Rattle.ruthvelka_c.specs.Lists.{ToldList, ToldQueries, bytes_of};
+ghost use Rattle.ruthvelka_c.specs.Lists.{ListStays, QueriesStay, ToldList, ToldQueries, bytes_of};
 ghost use Rattle.ruthvelka_c.specs.Names.{HasName};
 ghost use Rattle.ruthvelka_c.specs.Reports.{Told, ToldWithIds, flags};
 
@@ -84,6 +84,7 @@ pub extern "C" fn ruthvelka_proved_validate(
     ensures known { result ≤ 2 }
     ensures valid { result ≡ VALID → AreModule (flags features) bytes.now }
     ensures refused { result ≡ REFUSED → AreNoModule (flags features) bytes.now }
+    ensures place { result ≡ REFUSED → report.new.offset ≤ length bytes.now }
     ensures message { HasText report.new.message_length message.old message.new }
 {
     let answer = answer_alone(alloc, bytes, features);
@@ -110,6 +111,7 @@ pub extern "C" fn ruthvelka_proved_validate_with_ids(
     ensures known { result ≤ 2 }
     ensures valid { result ≡ VALID → AreModule (flags features) bytes.now }
     ensures refused { result ≡ REFUSED → AreNoModule (flags features) bytes.now }
+    ensures place { result ≡ REFUSED → report.new.offset ≤ length bytes.now }
     ensures message { HasText report.new.message_length message.old message.new }
 {
     let answer = answer_alone(alloc, bytes, features);
@@ -139,6 +141,7 @@ pub extern "C" fn ruthvelka_proved_validate_with_externs(
     ensures known { result ≤ 2 }
     ensures valid { result ≡ VALID → AreModule (flags features) bytes.now }
     ensures refused { result ≡ REFUSED → AreNoModule (flags features) bytes.now }
+    ensures place { result ≡ REFUSED → report.new.offset ≤ length bytes.now }
     ensures message { HasText report.new.message_length message.old message.new }
 {
     let answer = answer_alone(alloc, bytes, features);
@@ -171,7 +174,9 @@ pub extern "C" fn ruthvelka_proved_validate_list(
 ) -> u32
     ensures told { result ≡ VALID → ToldList (map bytes_of modules.now) features reports.old
         reports.new type_ids.old type_ids.new function_ids.old function_ids.new }
-    ensures known { result ≤ 2 }
+    ensures memory { result ≡ NO_MEMORY → ListStays reports.old reports.new type_ids.old
+        type_ids.new function_ids.old function_ids.new }
+    ensures known { (result ≡ VALID) ⊎ (result ≡ NO_MEMORY) }
 {
     let Ok(answers) = answer_list(alloc, modules, features) else {
         return NO_MEMORY;
@@ -199,7 +204,9 @@ pub extern "C" fn ruthvelka_proved_validate_list_with_queries(
 ) -> u32
     ensures told { result ≡ VALID → ToldQueries (map bytes_of modules.now) features reports.old
         reports.new queries.old queries.new }
-    ensures known { result ≤ 2 }
+    ensures memory { result ≡ NO_MEMORY → QueriesStay reports.old reports.new
+        queries.old queries.new }
+    ensures known { (result ≡ VALID) ⊎ (result ≡ NO_MEMORY) }
 {
     let Ok(answers) = answer_list(alloc, modules, features) else {
         return NO_MEMORY;
