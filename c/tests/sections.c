@@ -105,7 +105,8 @@ static void find_all(void) {
     expect("one of another section", ruthvelka_function_name(parts, sizeof parts, 7, &count, text, 3) == NONE && is_nothing_told());
     clear();
     expect("no count", ruthvelka_custom_sections(parts, sizeof parts, NULL, sections, 1) == DONE
-        && ruthvelka_bodies(parts, sizeof parts, NULL, bodies, 1) == DONE && ruthvelka_function_name(parts, sizeof parts, 0, NULL, text, 3) == DONE && !memcmp(text, "one", 3));
+        && ruthvelka_bodies(parts, sizeof parts, NULL, bodies, 1) == DONE
+        && ruthvelka_function_name(parts, sizeof parts, 0, NULL, text, 3) == DONE && !memcmp(text, "one", 3));
 }
 
 static void find_names(void) {
