@@ -542,6 +542,99 @@ uint32_t ruthvelka_types_signature(struct ruthvelka_types *types, uint32_t id,
     struct ruthvelka_signature *signature, struct ruthvelka_value_type *params, size_t param_room,
     struct ruthvelka_value_type *results, size_t result_room);
 
+/* ------------------------------- Sections, bodies, names ---------------------------------------
+
+   Where parts of a module lie in its bytes, for a host that looks at them itself: it reads a custom
+   section of its own, or compiles the bodies one by one. These calls need no more than that the
+   bytes are divided into sections as a module is (Binary Format, Modules), and say nothing of
+   whether it is valid: ruthvelka_check does. All offsets count from the first byte. */
+
+/* There is no such thing. */
+#define RUTHVELKA_STATUS_NONE 22
+
+/* A custom section: its contents, from `start` up to but not including `end`, are the length of its
+   name, the name, and its data. */
+struct ruthvelka_custom_section {
+    uint64_t size;       /* given: sizeof(struct ruthvelka_custom_section) */
+    uint64_t start;      /* where its contents begin */
+    /* its name: UTF-8, without a zero behind it, and of any characters */
+    uint64_t name_start, name_length;
+    uint64_t data_start; /* its data: all behind the name */
+    uint64_t end;        /* the byte behind it */
+};
+
+/* ruthvelka_custom_sections: writes where the custom sections of a module lie, in their order, as
+   far as there is room, and nothing behind them changes; `count`, which may be null, tells how many
+   there are. Several may have one name. `length / 3` is always enough room. What a custom section
+   holds is the module's own word: no rule of validation reads it.
+
+   Result: DONE; or REFUSED, where the bytes aren't divided as a module's are, NO_MEMORY or WRONG:
+   then the count is 0, and nothing is written. WRONG too where the size of the first item isn't
+   that of this structure. Threads: any, side by side. Memory: as of ruthvelka_check.
+
+       struct ruthvelka_custom_section sections[16] = {{sizeof sections[0], 0, 0, 0, 0, 0}};
+       uint64_t count;
+       if (ruthvelka_custom_sections(bytes, length, &count, sections, 16) == RUTHVELKA_STATUS_DONE)
+           for (uint64_t i = 0; i < count && i < 16; i++)
+               if (sections[i].name_length == 11
+                   && !memcmp(bytes + sections[i].name_start, "target_info", 11))
+                   read_target(bytes + sections[i].data_start, bytes + sections[i].end); */
+uint32_t ruthvelka_custom_sections(const uint8_t *bytes, size_t length, uint64_t *count,
+    struct ruthvelka_custom_section *sections, size_t room);
+
+/* The body of a function, from `start` up to but not including `end`: its locals and its
+   instructions, without its size. */
+struct ruthvelka_body {
+    uint64_t size;  /* given: sizeof(struct ruthvelka_body) */
+    uint64_t start; /* its first byte */
+    uint64_t end;   /* the byte behind it */
+};
+
+/* ruthvelka_bodies: writes where the bodies of a module lie, in their order, as far as there is
+   room, and nothing behind them changes; `count`, which may be null, tells how many there are. The
+   first one is that of the first function that isn't imported.
+
+   One body. There is no call that validates one body of a module alone. What bodies look up, the
+   types and the index spaces of their module, has counts of its holders that are not atomic, so no
+   two threads may read one module's, and handles over one snapshot would share these counts too:
+   docs/DECISIONS.md of the repository has the whole reason, under "There is no call for one body".
+   A host with several threads shares the bodies out by copies: each thread gets the module with
+   each body that isn't its own made one that is valid for any function, of the same size: no
+   locals, `unreachable`, and `nop` up to the `end` (00 00 01 .. 01 0b; a body of two bytes stays).
+   Bodies are valid each by itself, under what the sections say (Validation, Modules), so the module
+   is valid exactly where ruthvelka_check says so of each such copy.
+
+   Result, threads and memory: as of ruthvelka_custom_sections.
+
+       struct ruthvelka_body bodies[64] = {{sizeof bodies[0], 0, 0}};
+       uint64_t count;
+       if (ruthvelka_bodies(bytes, length, &count, bodies, 64) == RUTHVELKA_STATUS_DONE)
+           for (uint64_t i = 0; i < count && i < 64; i++)
+               compile(imported + i, bytes + bodies[i].start, bytes + bodies[i].end); */
+uint32_t ruthvelka_bodies(const uint8_t *bytes, size_t length, uint64_t *count,
+    struct ruthvelka_body *bodies, size_t room);
+
+/* ruthvelka_function_name: writes the name that a module gives the function of this index, imported
+   ones counted, as far as there is room, and nothing behind it changes; `name_length`, which may be
+   null, tells how many bytes the whole name has. It is the first such name in the first custom
+   section "name" (Appendix, Custom Sections, Name Section), if all before it can be read.
+
+   Distrust it: it is the module's own word, and no rule of validation reads it. It may be the name
+   of another function, or of several, or one that the host gives a meaning; it is UTF-8, without a
+   zero behind it, and of any characters, so it has to be escaped, as a message.
+
+   Result: DONE; or NONE, where there is no such name, REFUSED, where the bytes aren't divided as a
+   module's are, or WRONG: then the length is 0, and nothing is written. It takes no memory.
+   Threads: any, side by side.
+
+       char name[64];
+       uint64_t all;
+       if (ruthvelka_function_name(bytes, length, outcome.function, &all, name, sizeof name)
+           == RUTHVELKA_STATUS_DONE)
+           print_escaped(name, all < sizeof name ? (size_t)all : sizeof name); */
+uint32_t ruthvelka_function_name(const uint8_t *bytes, size_t length, uint32_t function,
+    uint64_t *name_length, char *name, size_t room);
+
 /* ----------------------------------------- Version 1 -------------------------------------------
 
    The calls below are deprecated: they stay for one version more. Their verdicts begin with 0 for

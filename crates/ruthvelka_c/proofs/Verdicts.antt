@@ -1,5 +1,6 @@
 -- What a verdict says of the bytes.
-use Rattle.std.proofs.Common.{ℕ, ◌≡◌, ◌≤◌, List, arith}
+use Rattle.std.proofs.Common.{ℕ, ◌≡◌, ◌≤◌, List, length, arith}
+use Rattle.std.specs.Prelude.{IfErr}
 use Rattle.std.specs.declared.result.Result.TheVariants.{Ok, Err}
 use Rattle.wasm_readers_errors.specs.WasmReadersFeatures.declared.features.WasmFeatures.{WasmFeatures}
 use Rattle.wasm_validator_handles.specs.WasmValidator.WasmValidatorCore.declared.error.Error.TheVariants.{Refused, DuplicateExport, InFunction, OutOfMemory}
@@ -8,7 +9,7 @@ use Rattle.wasm_validator_handles.specs.WasmValidator.Verdict.{DecidesAlone, Are
 use Rattle.ruthvelka_c.specs.declared.report.Report.{Report}
 use Rattle.ruthvelka_c.specs.declared.report.TheConstants.{VALID, REFUSED}
 use Rattle.ruthvelka_c.specs.Answers.{Answer}
-use Rattle.ruthvelka_c.specs.Reports.{Tells}
+use Rattle.ruthvelka_c.specs.Reports.{IsWithin, Tells}
 
 pub valid : (answer : Answer) (bytes : List ℕ) (features : WasmFeatures) (r : Report) → DecidesAlone answer bytes 0 features → Tells answer r → r.verdict ≡ VALID → AreModule features bytes
 valid (Ok t) bytes features r d tells e = d.1.module_valid
@@ -30,3 +31,8 @@ known (Err (Refused x)) r tells = let v = tells.verdict in omega (arith, v)
 known (Err (DuplicateExport name offset)) r tells = let v = tells.verdict in omega (arith, v)
 known (Err (InFunction index x)) r tells = let v = tells.verdict in omega (arith, v)
 known (Err OutOfMemory) r tells = let v = tells.verdict in omega (arith, v)
+
+-- the offset of a refusal
+pub place : (answer : Answer) (bytes : List ℕ) (r : Report) → IfErr answer (IsWithin bytes) → Tells answer r → r.verdict ≡ REFUSED → r.offset ≤ length bytes
+place (Ok t) bytes r h tells e = let v = tells.verdict in absurd (omega (arith, v, e))
+place (Err x) bytes r h tells e = let o = tells.offset in omega (arith, o, h)

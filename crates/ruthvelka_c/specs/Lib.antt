@@ -7,3 +7,4 @@ pub mod Lists
 pub mod Names
 pub mod Handles
 pub mod Types
+pub mod Sections

@@ -5,6 +5,8 @@ use Rattle.std.specs.declared.result.Result.TheVariants.{Ok, Err}
 use Rattle.wasm_spec_rules.specs.FeatureFlags.{features_of}
 use Rattle.wasm_validator_handles.specs.WasmValidator.WasmValidatorTypes.Shown.{shown_of}
 use Rattle.wasm_validator_handles.specs.WasmValidator.Headline.{Headline}
+use Rattle.wasm_validator_handles.specs.WasmValidator.Lists.{DecidesEach}
+use Rattle.wasm_validator_handles.specs.WasmValidator.Standing.{Standing, fresh}
 use Rattle.ruthvelka_c.specs.declared.report.Report.{Report}
 use Rattle.ruthvelka_c.specs.declared.report.TheConstants.{NOT_CHECKED}
 use Rattle.ruthvelka_c.specs.declared.lists.Bytes.{Bytes}
@@ -38,11 +40,18 @@ answered_on answers k r = TellsMaybe (slice_get answers k) r
 abbrev pub ReportsTell : List Answer → ℕ → List Report → List Report → Type 0
 ReportsTell answers count old new = AreTold (answered_on answers) count old new
 
--- What is told of a list of modules by a new validator with these proposals: as `validate_list` answers.
+-- The answers of a new validator with these proposals on a list of modules: each as `validate_all` decides, behind a reset, and all of them as
+-- `validate_list` says.
+pub record AreAnswered (modules : List (List ℕ)) (features : ℕ) (answers : List Answer) : Type 0 where
+  pub headline : Headline (features_of (flags features)) modules answers []
+  pub left : Standing
+  pub decided : DecidesEach answers modules (fresh 0 (flags features)) left
+
+-- What is told of a list of modules by such a validator.
 pub record ToldList
     (modules : List (List ℕ)) (features : ℕ) (reports_old reports_new : List Report) (types_old types_new functions_old functions_new : List ℕ) : Type 0 where
   pub answers : List Answer
-  pub headline : Headline (features_of (flags features)) modules answers []
+  pub answered : AreAnswered modules features answers
   pub reports : ReportsTell answers (length modules) reports_old reports_new
   pub types : AreWritten (flat_map types_of answers) types_old types_new
   pub functions : AreWritten (flat_map functions_of answers) functions_old functions_new
@@ -51,6 +60,17 @@ pub record ToldList
 pub record ToldQueries
     (modules : List (List ℕ)) (features : ℕ) (reports_old reports_new : List Report) (queries_old queries_new : List Query) : Type 0 where
   pub answers : List Answer
-  pub headline : Headline (features_of (flags features)) modules answers []
+  pub answered : AreAnswered modules features answers
   pub reports : ReportsTell answers (length modules) reports_old reports_new
   pub queries : QueriesTell answers queries_old queries_new
+
+-- Nothing was told of one.
+pub record ListStays
+    (reports_old reports_new : List Report) (types_old types_new functions_old functions_new : List ℕ) : Type 0 where
+  pub reports : reports_new ≡ reports_old
+  pub types : types_new ≡ types_old
+  pub functions : functions_new ≡ functions_old
+
+pub record QueriesStay (reports_old reports_new : List Report) (queries_old queries_new : List Query) : Type 0 where
+  pub reports : reports_new ≡ reports_old
+  pub queries : queries_new ≡ queries_old

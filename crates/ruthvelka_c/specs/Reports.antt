@@ -1,5 +1,5 @@
 -- What a report tells of an answer.
-use Rattle.std.specs.Prelude.{ℕ, ◌≡◌, List, length, map, slice_index, Option, Some, None}
+use Rattle.std.specs.Prelude.{ℕ, ◌≡◌, ◌≤◌, List, length, map, slice_index, Option, Some, None}
 use Rattle.std.specs.Option.{unwrap_or}
 use Rattle.std.specs.declared.result.Result.TheVariants.{Ok, Err}
 use Rattle.wasm_readers_errors.specs.WasmReadersFeatures.declared.features.WasmFeatures.{WasmFeatures}
@@ -71,6 +71,10 @@ pub record IdsStay (types_old types_new functions_old functions_new : List ℕ) 
 abbrev pub GivesIds : Answer → List ℕ → List ℕ → List ℕ → List ℕ → Type 0
 GivesIds (Ok t) types_old types_new functions_old functions_new = IdsAreWritten (shown_of t).spaces types_old types_new functions_old functions_new
 GivesIds (Err e) types_old types_new functions_old functions_new = IdsStay types_old types_new functions_old functions_new
+
+-- The offset of a refusal is one of these bytes, or that right behind them.
+abbrev pub IsWithin : {A : Type 0} → List ℕ → Error A → Type 0
+IsWithin bytes e = offset_of e ≤ length bytes
 
 -- The report tells what a new validator with these proposals answers on these bytes: as `validate_all` does.
 pub record Told (bytes : List ℕ) (features : ℕ) (r : Report) : Type 0 where

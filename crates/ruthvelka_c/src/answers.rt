@@ -1,11 +1,9 @@
 //! What the validator answers, and the ids that it gives.
 
-ghost use Rattle.std.specs.Prelude.{IfOk, [], map};
-ghost use Rattle.wasm_spec_rules.specs.FeatureFlags.{features_of};
-ghost use Rattle.wasm_validator_handles.specs.WasmValidator.Headline.{Headline};
+ghost use Rattle.std.specs.Prelude.{IfErr, IfOk, map};
 ghost use Rattle.wasm_validator_handles.specs.WasmValidator.Verdict.{DecidesAlone};
-ghost use Rattle.ruthvelka_c.specs.Lists.{bytes_of};
-ghost use Rattle.ruthvelka_c.specs.Reports.{GivesIds, flags};
+ghost use Rattle.ruthvelka_c.specs.Lists.{AreAnswered, bytes_of};
+ghost use Rattle.ruthvelka_c.specs.Reports.{GivesIds, IsWithin, flags};
 
 use crate::arrays::{write_function_ids, write_type_ids};
 use crate::lists::{Bytes, lend};
@@ -17,7 +15,8 @@ use wasm_validator_handles::validator::{
 
 /// What a new validator with these proposals answers on these bytes.
 pub fn answer_alone(alloc: Global, bytes: &[u8], features: u64) -> Answer
-    ensures { DecidesAlone result bytes.now 0 (flags features) }
+    ensures decided { DecidesAlone result bytes.now 0 (flags features) }
+    ensures place { IfErr result (IsWithin bytes.now) }
 {
     let features = WasmFeatures::from_bits_retain(features);
     let mut validator = Validator::new_with_features(alloc, features, ValidatorId::from_number(0));
@@ -41,8 +40,8 @@ pub fn answer_list(
     modules: &[Bytes],
     features: u64,
 ) -> Result<Vec<Answer>, AllocError>
-    ensures { IfOk result (λ answers. Headline (features_of (flags features))
-        (map bytes_of modules.now) answers.items []) }
+    ensures { IfOk result (λ answers. AreAnswered (map bytes_of modules.now) features
+        answers.items) }
 {
     let lent = lend(alloc, modules)?;
     let features = WasmFeatures::from_bits_retain(features);

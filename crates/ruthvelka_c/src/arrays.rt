@@ -61,3 +61,12 @@ pub fn write_function_ids<A: Allocator + Copy>(to: &mut [u32], types: &TypesRef<
         to[place] = types.core_function_at(index).index() as u32;
     }
 }
+
+/// Writes as much of a name as there is room for, and gives the length of the whole.
+pub fn write_name(to: &mut [u8], name: &str) -> u64
+    ensures told { result ≡ length name.now }
+    ensures written { AreWritten name.now to.old to.new }
+{
+    write_bytes(to, name.as_bytes());
+    name.len() as u64
+}

@@ -128,10 +128,7 @@ fn error_status(error: &Error) -> u32
         Error::OutOfMemory => STATUS_NO_MEMORY,
         Error::Refused(_) => STATUS_REFUSED,
         Error::DuplicateExport { name: _, offset: _ } => STATUS_REFUSED,
-        Error::InFunction {
-            index: _,
-            refusal: _,
-        } => STATUS_REFUSED,
+        Error::InFunction { .. } => STATUS_REFUSED,
     }
 }
 

@@ -2,13 +2,14 @@
 //! here it is stated and proved, by the clauses of the validator itself.
 #![tactic(auto)]
 
-ghost use Rattle.std.specs.Prelude.{◌≡◌, ◌≤◌, map};
+ghost use Rattle.std.specs.Prelude.{◌≡◌, ◌≤◌, ◌⊎◌, length, map};
 ghost use Rattle.bitflags.specs.Sets.{known_bits};
+ghost use Rattle.wasm_validator_handles.specs.Names.{bits_named};
 ghost use Rattle.wasm_validator_handles.specs.WasmValidator.Verdict.{AreModule, AreNoModule};
 ghost use Rattle.ruthvelka_c.specs.Arrays.{HasText};
 ghost use Rattle.ruthvelka_c.specs.Externs.{ToldWithExterns};
-ghost use Rattle.ruthvelka_c.specs.Lists.{ToldList, ToldQueries, bytes_of};
-ghost use Rattle.ruthvelka_c.specs.Names.{HasName, bits_named};
+ghost use Rattle.ruthvelka_c.specs.Lists.{ListStays, QueriesStay, ToldList, ToldQueries, bytes_of};
+ghost use Rattle.ruthvelka_c.specs.Names.{HasName};
 ghost use Rattle.ruthvelka_c.specs.Reports.{Told, ToldWithIds, flags};
 
 mod answers;
@@ -16,17 +17,16 @@ mod arrays;
 mod externs;
 mod handles;
 mod lists;
-mod names;
 mod queries;
 mod report;
+mod sections;
 mod types;
 
 use answers::{answer_alone, answer_list, write_ids};
-use arrays::write_numbers;
+use arrays::{write_name, write_numbers};
 use externs::{gather_answer, write_all};
 pub use lists::Bytes;
 use lists::{gather_functions, gather_types, write_reports};
-use names::{all_features, find_feature, find_name, write_name};
 use queries::answer_queries;
 pub use queries::{IS_SUBTYPE, MAY_BE_GIVEN, NO, Query, UNKNOWN, YES};
 use report::{report_no_memory, report_of, report_with_names, write_message};
@@ -34,6 +34,7 @@ pub use report::{NO_FUNCTION, NO_MEMORY, NOT_CHECKED, REFUSED, Report, VALID};
 use std::alloc::Global;
 pub use wasm_validator_handles::Extern;
 use wasm_validator_handles::validator::{Flags, WasmFeatures};
+use wasm_validator_handles::{all_features, find_feature, find_name};
 
 /// The version of the library, as major · 1,000,000 + minor · 1,000 + patch.
 #[unsafe(no_mangle)]
@@ -83,6 +84,7 @@ pub extern "C" fn ruthvelka_proved_validate(
     ensures known { result ≤ 2 }
     ensures valid { result ≡ VALID → AreModule (flags features) bytes.now }
     ensures refused { result ≡ REFUSED → AreNoModule (flags features) bytes.now }
+    ensures place { result ≡ REFUSED → report.new.offset ≤ length bytes.now }
     ensures message { HasText report.new.message_length message.old message.new }
 {
     let answer = answer_alone(alloc, bytes, features);
@@ -109,6 +111,7 @@ pub extern "C" fn ruthvelka_proved_validate_with_ids(
     ensures known { result ≤ 2 }
     ensures valid { result ≡ VALID → AreModule (flags features) bytes.now }
     ensures refused { result ≡ REFUSED → AreNoModule (flags features) bytes.now }
+    ensures place { result ≡ REFUSED → report.new.offset ≤ length bytes.now }
     ensures message { HasText report.new.message_length message.old message.new }
 {
     let answer = answer_alone(alloc, bytes, features);
@@ -138,6 +141,7 @@ pub extern "C" fn ruthvelka_proved_validate_with_externs(
     ensures known { result ≤ 2 }
     ensures valid { result ≡ VALID → AreModule (flags features) bytes.now }
     ensures refused { result ≡ REFUSED → AreNoModule (flags features) bytes.now }
+    ensures place { result ≡ REFUSED → report.new.offset ≤ length bytes.now }
     ensures message { HasText report.new.message_length message.old message.new }
 {
     let answer = answer_alone(alloc, bytes, features);
@@ -156,10 +160,9 @@ pub extern "C" fn ruthvelka_proved_validate_with_externs(
 }
 
 /// Validates modules one after another by one validator with these proposals, as far as it goes, and
-/// reports on each, as far as there is room. The ids of the types, and of the types of the
-/// functions, of all accepted modules come one module after another, as far as there is room. The
-/// result is `VALID` where this was done, whatever the verdicts are, and `NO_MEMORY` where memory for
-/// the list itself was refused; then nothing is written.
+/// reports on each. The ids of the types, and of the types of the functions, of all accepted modules
+/// come one module after another, all as far as there is room. The result is `VALID` where this was
+/// done, whatever the verdicts are, and `NO_MEMORY` where memory was refused: nothing is written then.
 #[unsafe(no_mangle)]
 pub extern "C" fn ruthvelka_proved_validate_list(
     alloc: Global,
@@ -171,7 +174,9 @@ pub extern "C" fn ruthvelka_proved_validate_list(
 ) -> u32
     ensures told { result ≡ VALID → ToldList (map bytes_of modules.now) features reports.old
         reports.new type_ids.old type_ids.new function_ids.old function_ids.new }
-    ensures known { result ≤ 2 }
+    ensures memory { result ≡ NO_MEMORY → ListStays reports.old reports.new type_ids.old
+        type_ids.new function_ids.old function_ids.new }
+    ensures known { (result ≡ VALID) ⊎ (result ≡ NO_MEMORY) }
 {
     let Ok(answers) = answer_list(alloc, modules, features) else {
         return NO_MEMORY;
@@ -188,8 +193,7 @@ pub extern "C" fn ruthvelka_proved_validate_list(
     VALID
 }
 
-/// The same, but writes no ids: instead it answers questions about the types, the exports and the
-/// imports of accepted modules, each in its place.
+/// The same with answers to questions about accepted modules, each in its place, and no ids.
 #[unsafe(no_mangle)]
 pub extern "C" fn ruthvelka_proved_validate_list_with_queries(
     alloc: Global,
@@ -200,7 +204,9 @@ pub extern "C" fn ruthvelka_proved_validate_list_with_queries(
 ) -> u32
     ensures told { result ≡ VALID → ToldQueries (map bytes_of modules.now) features reports.old
         reports.new queries.old queries.new }
-    ensures known { result ≤ 2 }
+    ensures memory { result ≡ NO_MEMORY → QueriesStay reports.old reports.new
+        queries.old queries.new }
+    ensures known { (result ≡ VALID) ⊎ (result ≡ NO_MEMORY) }
 {
     let Ok(answers) = answer_list(alloc, modules, features) else {
         return NO_MEMORY;

@@ -6,7 +6,7 @@ ghost use Rattle.wasm_validator_handles.specs.WasmValidator.WasmValidatorTypes.S
 ghost use Rattle.ruthvelka_c.specs.Lists.{ReportsTell, bytes_of, answered_on, types_of, functions_of};
 ghost use Rattle.ruthvelka_c.specs.Reports.{Tells, function_ids};
 
-use crate::report::{Answer, NO_FUNCTION, NOT_CHECKED, Report, report_of};
+use crate::report::{Answer, NOT_CHECKED, Report, report_no_memory, report_of};
 use std::alloc::{AllocError, Global};
 use wasm_validator_handles::validator::TypesRef;
 
@@ -43,22 +43,9 @@ pub fn not_checked() -> Report
     ensures verdict { result.verdict ≡ NOT_CHECKED }
     ensures message { result.message_length ≡ 0 }
 {
-    Report {
-        offset: 0,
-        missing_features: 0,
-        message_length: 0,
-        imports: 0,
-        exports: 0,
-        names_length: 0,
-        verdict: NOT_CHECKED,
-        function: NO_FUNCTION,
-        types: 0,
-        functions: 0,
-        tables: 0,
-        memories: 0,
-        globals: 0,
-        tags: 0,
-    }
+    let mut report = report_no_memory();
+    report.verdict = NOT_CHECKED;
+    report
 }
 
 /// Reports on the modules of a list of so many, as far as there is room.

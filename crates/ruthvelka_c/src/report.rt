@@ -131,10 +131,7 @@ fn refusal_verdict(error: &Error) -> u32
     match error {
         Error::Refused(_) => REFUSED,
         Error::DuplicateExport { name: _, offset: _ } => REFUSED,
-        Error::InFunction {
-            index: _,
-            refusal: _,
-        } => REFUSED,
+        Error::InFunction { .. } => REFUSED,
         Error::OutOfMemory => NO_MEMORY,
     }
 }

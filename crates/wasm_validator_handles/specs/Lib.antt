@@ -6,3 +6,4 @@ pub mod Values
 pub mod Pairs
 pub mod Entities
 pub mod Signatures
+pub mod Names

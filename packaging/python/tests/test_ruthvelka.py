@@ -13,7 +13,8 @@ import unittest
 from unittest import mock
 
 import ruthvelka
-from ruthvelka import Answer, HeapType, Kind, Query, QueryKind, Validator, ValueKind, ValueType, Verdict, WasmFeatures, _calls, _handles, _library
+from ruthvelka import Answer, HeapType, Kind, Query, QueryKind, Validator, ValueKind, ValueType, Verdict, WasmFeatures
+from ruthvelka import _calls, _handles, _library, _sections
 
 HEAD = b"\0asm\1\0\0\0"
 
@@ -500,6 +501,50 @@ class Threads(unittest.TestCase):
         for it in threads:
             it.join()
         self.assertEqual(wrong, [])
+
+
+class Parts(unittest.TestCase):
+    @staticmethod
+    def custom(name: bytes, data: bytes) -> bytes:
+        whole = number(len(name)) + name + data
+        return b"\0" + number(len(whole)) + whole
+
+    def test_custom_sections_are_where_they_are(self):
+        data = HEAD + self.custom(b"a", b"xyz") + FUNCTIONS + self.custom(b"", b"") + self.custom("é".encode(), b"q" * 200)
+        found = ruthvelka.custom_sections(data)
+        self.assertEqual([it.name for it in found], ["a", "", "é"])
+        self.assertEqual([data[it.data.start : it.data.stop] for it in found], [b"xyz", b"", b"q" * 200])
+        self.assertEqual([data[it.contents.start : it.contents.stop] for it in found], [b"\1axyz", b"\0", b"\2" + "é".encode() + b"q" * 200])
+        self.assertEqual(ruthvelka.custom_sections(HEAD), [])
+
+    def test_bodies_are_where_they_are(self):
+        self.assertEqual([EXPORTER[it.start : it.stop] for it in ruthvelka.bodies(EXPORTER)], [b"\0\x0b", b"\0\x20\0\x0b"])
+        self.assertEqual([WRONG_BODY[it.start : it.stop] for it in ruthvelka.bodies(WRONG_BODY)], [b"\0\1\x0b"])
+        self.assertEqual(ruthvelka.bodies(HEAD), [])
+
+    def test_names_are_those_of_the_name_section(self):
+        names = b"\2\0\1f\3" + number(300) + b"n" * 300
+        data = HEAD + self.custom(b"name", b"\1" + number(len(names)) + names)
+        self.assertEqual([ruthvelka.function_name(data, it) for it in (0, 1, 3)], ["f", None, "n" * 300])
+        self.assertIsNone(ruthvelka.function_name(WHOLE, 0))
+        for wrong in (-1, 1 << 32):
+            with self.assertRaises(ruthvelka.BadCall):
+                ruthvelka.function_name(data, wrong)
+
+    def test_what_is_no_module_has_no_parts(self):
+        for call in (ruthvelka.custom_sections, ruthvelka.bodies, lambda data: ruthvelka.function_name(data, 0)):
+            for data in (b"", HEAD[:7], HEAD + b"\1", WHOLE[:-1]):
+                with self.assertRaises(ruthvelka.Refused):
+                    call(data)
+
+    def test_other_statuses_have_no_parts(self):
+        for status, error in ((_library.STATUS_NO_MEMORY, MemoryError), (_library.STATUS_WRONG, ruthvelka.BadCall), (0, ruthvelka.BadCall)):
+            given = mock.Mock(return_value=status)
+            library = mock.Mock(ruthvelka_custom_sections=given, ruthvelka_bodies=given, ruthvelka_function_name=given)
+            with mock.patch.object(_sections.c, "calls", library):
+                for call in (ruthvelka.custom_sections, ruthvelka.bodies, lambda data: ruthvelka.function_name(data, 0)):
+                    with self.assertRaises(error):
+                        call(WHOLE)
 
 
 if __name__ == "__main__":

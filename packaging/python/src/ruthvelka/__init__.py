@@ -11,9 +11,10 @@ from ._calls import (
 from ._features import VERSION as __version__
 from ._features import WasmFeatures
 from ._handles import Failed, HeapType, Types, Validator, ValueKind, ValueType
+from ._sections import CustomSection, bodies, custom_sections, function_name
 
 __all__ = [
-    "Answer", "BadCall", "Export", "Extern", "Failed", "HeapType", "Import", "Kind", "Module", "Query", "QueryKind", "Refused", "Result", "TypeId",
-    "Types", "Validator", "ValueKind", "ValueType", "Verdict", "WasmFeatures", "__version__", "ask", "imports_and_exports", "is_valid", "validate",
-    "validate_list",
+    "Answer", "BadCall", "CustomSection", "Export", "Extern", "Failed", "HeapType", "Import", "Kind", "Module", "Query", "QueryKind", "Refused",
+    "Result", "TypeId", "Types", "Validator", "ValueKind", "ValueType", "Verdict", "WasmFeatures", "__version__", "ask", "bodies", "custom_sections",
+    "function_name", "imports_and_exports", "is_valid", "validate", "validate_list",
 ]

@@ -5,7 +5,7 @@ import os
 from ._features import LIBRARY_VERSION
 
 VALID, REFUSED, NO_MEMORY, NOT_CHECKED, BAD_CALL = range(5)
-STATUS_DONE, STATUS_VALID, STATUS_REFUSED, STATUS_NO_MEMORY, STATUS_FAILED, STATUS_WRONG = range(16, 22)
+STATUS_DONE, STATUS_VALID, STATUS_REFUSED, STATUS_NO_MEMORY, STATUS_FAILED, STATUS_WRONG, STATUS_NONE = range(16, 23)
 YES = 1
 NONE = 0xFFFFFFFF
 
@@ -50,6 +50,14 @@ class ValueType(ctypes.Structure):
     _fields_ = [("size", ctypes.c_uint64)] + [(it, ctypes.c_uint32) for it in ("kind", "heap", "id", "flags")]
 
 
+class CustomSection(ctypes.Structure):
+    _fields_ = [(it, ctypes.c_uint64) for it in ("size", "start", "name_start", "name_length", "data_start", "end")]
+
+
+class Body(ctypes.Structure):
+    _fields_ = [(it, ctypes.c_uint64) for it in ("size", "start", "end")]
+
+
 def place() -> str:
     """The path of the shared object: that of this package, or, in a tree of sources, which has none, the one that RUTHVELKA_LIBRARY names."""
     own = os.path.join(os.path.dirname(os.path.abspath(__file__)), "libruthvelka.so.0")
@@ -84,6 +92,9 @@ def load() -> ctypes.CDLL:
         "types_is_subtype": (number, [handle, number, number]),
         "types_matches": (number, [handle, value, value]),
         "types_entity_may_be_given": (number, [handle, number, handle, number]),
+        "custom_sections": (number, [text, size, ctypes.POINTER(word), ctypes.POINTER(CustomSection), size]),
+        "bodies": (number, [text, size, ctypes.POINTER(word), ctypes.POINTER(Body), size]),
+        "function_name": (number, [text, size, number, ctypes.POINTER(word), text, size]),
     }
     library = ctypes.CDLL(place())
     for name, (result, arguments) in calls.items():

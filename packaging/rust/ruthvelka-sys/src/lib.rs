@@ -25,6 +25,7 @@ pub const STATUS_REFUSED: u32 = 18;
 pub const STATUS_NO_MEMORY: u32 = 19;
 pub const STATUS_FAILED: u32 = 20;
 pub const STATUS_WRONG: u32 = 21;
+pub const STATUS_NONE: u32 = 22;
 
 pub const I32: u32 = 0x7f;
 pub const I64: u32 = 0x7e;
@@ -209,6 +210,27 @@ pub struct Query {
     pub answer: u32,
 }
 
+/// `struct ruthvelka_custom_section`.
+#[repr(C)]
+#[derive(Clone, Copy, Debug, Default)]
+pub struct CustomSection {
+    pub size: u64,
+    pub start: u64,
+    pub name_start: u64,
+    pub name_length: u64,
+    pub data_start: u64,
+    pub end: u64,
+}
+
+/// `struct ruthvelka_body`.
+#[repr(C)]
+#[derive(Clone, Copy, Debug, Default)]
+pub struct Body {
+    pub size: u64,
+    pub start: u64,
+    pub end: u64,
+}
+
 extern "C" {
     pub fn ruthvelka_version() -> u32;
     pub fn ruthvelka_feature(name: *const u8, length: usize) -> u64;
@@ -286,4 +308,7 @@ extern "C" {
     pub fn ruthvelka_types_is_subtype(types: *mut Types, first: u32, second: u32) -> u32;
     pub fn ruthvelka_types_matches(types: *mut Types, first: *const ValueType, second: *const ValueType) -> u32;
     pub fn ruthvelka_types_entity_may_be_given(exporter: *mut Types, exported: u32, importer: *mut Types, imported: u32) -> u32;
+    pub fn ruthvelka_custom_sections(bytes: *const u8, length: usize, count: *mut u64, sections: *mut CustomSection, room: usize) -> u32;
+    pub fn ruthvelka_bodies(bytes: *const u8, length: usize, count: *mut u64, bodies: *mut Body, room: usize) -> u32;
+    pub fn ruthvelka_function_name(bytes: *const u8, length: usize, function: u32, name_length: *mut u64, name: *mut u8, room: usize) -> u32;
 }

@@ -9,6 +9,7 @@ mod flags;
 mod list;
 #[cfg(test)]
 mod memory;
+mod sections;
 mod types;
 mod validator;
 
@@ -16,6 +17,7 @@ pub use error::{BinaryReaderError, Result};
 pub use externs::{Export, ExternalKind, Externs, Import};
 pub use flags::WasmFeatures;
 pub use list::{ask, validate_list, Answer, Query};
+pub use sections::{bodies, custom_sections, function_name, CustomSection};
 pub use types::{AbstractHeapType, CoreTypeId, HeapType, Types, ValType};
 pub use validator::Validator;
 

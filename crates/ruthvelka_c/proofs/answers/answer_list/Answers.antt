@@ -1,9 +1,10 @@
 use Rattle.std.proofs.Common.{◌≡◌, ℕ, List, [], map, ap, subst, ◌∙◌, Bor}
 use Rattle.wasm_spec_rules.specs.FeatureFlags.{features_of}
 use Rattle.wasm_validator_handles.specs.WasmValidator.Standing.{Standing, fresh}
+use Rattle.wasm_validator_handles.specs.WasmValidator.Lists.{DecidesEach}
 use Rattle.wasm_validator_handles.specs.WasmValidator.Headline.{Headline, types_held}
 use Rattle.ruthvelka_c.specs.Reports.{flags}
-use Rattle.ruthvelka_c.specs.Lists.{bytes_of}
+use Rattle.ruthvelka_c.specs.Lists.{AreAnswered, bytes_of}
 use Rattle.ruthvelka_c.proofs.answers.answer_list.Goals as goal
 
 pub returns-in-Ok : goal.returns-in-Ok
@@ -14,4 +15,6 @@ returns-in-Ok c =
     let made : c.new_with_features-validator.result ≡ fresh 0 (flags c.args.features) = c.new_with_features-validator.ensures ∙ (ap (λ (n : ℕ). fresh n c.from_bits_retain-features.result) c.from_number.ensures ∙ ap (fresh 0) bits) in
     let new : Headline (features_of (flags c.args.features)) modules c.in-Ok.answers.items [] =
     subst (λ (s : Standing). Headline (features_of s.features) modules c.in-Ok.answers.items (types_held s.stage)) made c.in-Ok.ensures.headline in
-    subst (λ ms. Headline (features_of (flags c.args.features)) ms c.in-Ok.answers.items []) lent new
+    let each : DecidesEach c.in-Ok.answers.items modules (fresh 0 (flags c.args.features)) c.validate_list.new.validator =
+    subst (λ (s : Standing). DecidesEach c.in-Ok.answers.items modules s c.validate_list.new.validator) made c.in-Ok.ensures.decided in
+    subst (λ ms. AreAnswered ms c.args.features c.in-Ok.answers.items) lent (record { headline = new; left = c.validate_list.new.validator; decided = each })

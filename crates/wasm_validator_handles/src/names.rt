@@ -1,12 +1,10 @@
 //! The features by their names.
 
-ghost use Rattle.std.specs.Prelude.{◌≡◌, length};
+ghost use Rattle.std.specs.Prelude.{◌≡◌};
 ghost use Rattle.bitflags.specs.Sets.{known_bits};
-ghost use Rattle.ruthvelka_c.specs.Arrays.{AreWritten};
-ghost use Rattle.ruthvelka_c.specs.Names.{bits_named, name_in};
+ghost use Rattle.wasm_validator_handles.specs.Names.{bits_named, name_in};
 
-use crate::arrays::write_bytes;
-use wasm_validator_handles::validator::{Flags, WasmFeatures};
+use wasm_validator::{Flags, WasmFeatures};
 
 /// The bits of the feature with this name, or none.
 pub fn find_feature(name: &[u8]) -> u64
@@ -39,13 +37,4 @@ pub fn all_features() -> u64
     ensures { result ≡ known_bits ⟦<WasmFeatures as Flags>⟧.table }
 {
     <WasmFeatures as Flags>::all().bits()
-}
-
-/// Writes as much of a name as there is room for, and gives the length of the whole.
-pub fn write_name(to: &mut [u8], name: &str) -> u64
-    ensures told { result ≡ length name.now }
-    ensures written { AreWritten name.now to.old to.new }
-{
-    write_bytes(to, name.as_bytes());
-    name.len() as u64
 }

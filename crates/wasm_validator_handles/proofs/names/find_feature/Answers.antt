@@ -3,8 +3,8 @@ use Rattle.std.proofs.lemmas.Str.{IsUtf8-from_is_utf8, is_utf8-from_IsUtf8}
 use Rattle.std.specs.Option.{unwrap_or}
 use Rattle.std.specs.Str.{is_utf8}
 use Rattle.bitflags.specs.Sets.{Row, find_name}
-use Rattle.ruthvelka_c.specs.Names.{bits_named}
-use Rattle.ruthvelka_c.proofs.names.find_feature.Goals as goal
+use Rattle.wasm_validator_handles.specs.Names.{bits_named}
+use Rattle.wasm_validator_handles.proofs.names.find_feature.Goals as goal
 
 no_text : (b : Bool) → (b ≡ true → ⊥) → b ≡ false
 no_text true n = absurd (n refl)

@@ -1,0 +1,4 @@
+mod Pieces
+mod Placed
+mod Fronts
+mod Named
