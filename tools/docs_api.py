@@ -392,7 +392,10 @@ def declaration(item):
 def with_message(item, row):
     """A variant of a fault with the message that it prints, where that is one text."""
     variant = re.match(r"    (\w+)(?:\([^)]*\))?,$", row)
-    found = item.path.startswith("crates/wasm_readers_errors/") and variant and re.search(rf'\b{item.name}::{variant[1]}(?:\(_\))? =>\s*"([^"]*)"', "\n".join(item.rows))
+    if not variant or not item.path.startswith("crates/wasm_readers_errors/"):
+        return row
+    # a function that brings in all variants of its type names them alone
+    found = re.search(rf'(?m)(?:\b{item.name}::|^ +(?:\w+ \| )*){variant[1]}(?:\(_\))? =>\s*"([^"]*)"', "\n".join(item.rows))
     return f"{row} // {found[1]}" if found else row
 
 

@@ -224,6 +224,8 @@ class Limits:
         """The text of a variant, as the crate of errors has it, with N for numbers."""
         family, name = variant.split("::")
         found = re.search(rf'{variant}(?:\([\w, ]*\))? =>\s*(?:write!\(\s*f,\s*)?"([^"]*)"', self.errors)
+        # a function that brings in all variants of its type names them alone
+        found = found or re.search(rf'(?m)^ +{name} =>\s*"([^"]*)"', self.errors)
         if family == "Counted":
             found = re.search(r'"(\{what\} count exceeds limit of \{limit\})"', self.errors), found
             if None in found:

@@ -47,8 +47,9 @@ CHAPTERS = [
         "wasm_operators_plain/Immediates wasm_operators_plain/Opcodes wasm_operators_plain/Numeric wasm_operators_plain/Constants "
         "wasm_operators_plain/Variables wasm_operators_plain/Calls "
         "wasm_operators_plain/Tables wasm_operators_plain/Memories wasm_operators_plain/Structs wasm_operators_plain/Arrays "
-        "wasm_operators_plain/Conversions wasm_operators_vector/Tables wasm_operators_vector/Codes wasm_operators_atomic/Codes wasm_operators/FormImmediates "
-        "wasm_operators/Control wasm_operators/References wasm_operators/Legacy wasm_operators/Instructions wasm_operator_steps/Sequences",
+        "wasm_operators_plain/Conversions wasm_operators_vector/Tables wasm_operators_vector/Codes wasm_operators_atomic/Codes wasm_operators_atomic/Wide "
+        "wasm_operators/FormImmediates wasm_operators/Control wasm_operators/References wasm_operators/Legacy wasm_operators/Instructions "
+        "wasm_operator_steps/Sequences",
     ),
     (
         "Instructions: the table",

@@ -465,10 +465,12 @@ def numbers():
                           ('a cast by a descriptor, fb 23', '00 fb 23 00 1a'), ('a wide sum, fc 13', '00 fc 13 1a 1a'),
                           ('a memory.discard, fc 12', '00 fc 12 00'), ('an opcode behind fb that none has', 'fb 7f'),
                           ('an opcode behind fc that none has', 'fc 7f')]:
-        # operators on vectors and atomic ones have to be asked for
+        # operators on vectors, atomic ones, wide ones and `memory.discard` have to be asked for
         missing = 'vector_operators' if ', fd ' in title else 'atomic_operators' if ', fe ' in title else 'nothing'
         if 'first exceptions' in title:
             missing = 'legacy_exceptions'
+        if 'wide sum' in title or 'memory.discard' in title:
+            missing = 'wide_arithmetic' if 'wide sum' in title else 'memory_control'
         case(title, with_body(b'\0' + bytes.fromhex(digits) + b'\x0b', mems=['1']), wanted='refused; missing %s; ' % missing + IN_BODY, own=True)
 
 

@@ -299,6 +299,8 @@ class Scan:
             key += self.b[start:self.at]
             if code == 0xFC and number < 8:
                 self.need("saturating_float_to_int")
+            if code == 0xFC and number >= 18:
+                self.need("memory_control" if number == 18 else "wide_arithmetic")
         if key not in BY_CODE:
             raise Bad("no operator")
         name, kinds = BY_CODE[key]
@@ -359,7 +361,8 @@ class Scan:
 
     def index(self, name, place, is_constant):
         value = self.number()
-        of_memory = (name, place) in (("memory.size", 0), ("memory.grow", 0), ("memory.fill", 0), ("memory.init", 1), ("memory.copy", 0), ("memory.copy", 1))
+        of_memory = (name, place) in (("memory.size", 0), ("memory.grow", 0), ("memory.fill", 0), ("memory.init", 1), ("memory.copy", 0), ("memory.copy", 1),
+                                      ("memory.discard", 0))
         if value and of_memory:
             self.need("multi_memory")
         if value and (name, place) in (("call_indirect", 1), ("return_call_indirect", 1)):

@@ -216,6 +216,11 @@ define(b"\xfc", """
 15 table.grow u
 16 table.size u
 17 table.fill u
+18 memory.discard u
+19 i64.add128
+20 i64.sub128
+21 i64.mul_wide_s
+22 i64.mul_wide_u
 """)
 define(b"\xfb", """
 0 struct.new u

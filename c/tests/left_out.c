@@ -4,7 +4,7 @@
 #include <stdio.h>
 #include <string.h>
 
-#define ALL ((UINT64_C(1) << 22) - 1)
+#define ALL ((RUTHVELKA_MEMORY_CONTROL << 1) - 1 - RUTHVELKA_CRATE_LIMITS)
 static long wrong;
 
 /* Validates a module with a memory and a function whose body is `unreachable`, these bytes, `unreachable` and `end`. The bytes begin at byte 29. */
@@ -44,14 +44,14 @@ static void try_group(const struct group *group) {
 static void try_left_out(void) {
     static const struct group groups[] = {{"an operator of stack switching", {0xe0}, 0, 7}, 
         {"ref.get_desc, or a cast or a branch by a descriptor", {0xfb, 0x22}, 1, 5},
-        {"memory.discard", {0xfc, 0x12}, 1, 1}, {"an operator of wide arithmetic", {0xfc, 0x13}, 1, 4},
         {"an atomic access to a global, a table, a structure or an array", {0xfe, 0x4f}, 1, 35}};
     for (size_t it = 0; it < sizeof groups / sizeof *groups; it++) try_group(&groups[it]);
 }
 
 /* Each is valid under all features, and refused without its own. */
 static void try_opt_in(void) {
-    static const char vectors[] = "vector operators are not served", atomics[] = "atomic operators are not served", legacy[] = "illegal opcode 0x06";
+    static const char vectors[] = "vector operators are not served", atomics[] = "atomic operators are not served", legacy[] = "illegal opcode 0x06",
+        wide[] = "wide arithmetic support is not enabled", discard[] = "memory control support is not enabled";
     static const struct {
         const char *name;
         uint64_t feature;
@@ -64,7 +64,10 @@ static void try_opt_in(void) {
         {"i32.atomic.load", RUTHVELKA_ATOMIC_OPERATORS, atomics, 4, {0xfe, 0x10, 0x02, 0x00}},
         {"try", RUTHVELKA_LEGACY_EXCEPTIONS, legacy, 3, {0x06, 0x40, 0x0b}},
         {"try and rethrow", RUTHVELKA_LEGACY_EXCEPTIONS, legacy, 6, {0x06, 0x40, 0x19, 0x09, 0x00, 0x0b}},
-        {"try and delegate", RUTHVELKA_LEGACY_EXCEPTIONS, legacy, 4, {0x06, 0x40, 0x18, 0x00}}};
+        {"try and delegate", RUTHVELKA_LEGACY_EXCEPTIONS, legacy, 4, {0x06, 0x40, 0x18, 0x00}},
+        {"i64.add128", RUTHVELKA_WIDE_ARITHMETIC, wide, 2, {0xfc, 0x13}},
+        {"i64.mul_wide_u", RUTHVELKA_WIDE_ARITHMETIC, wide, 2, {0xfc, 0x16}},
+        {"memory.discard", RUTHVELKA_MEMORY_CONTROL, discard, 3, {0xfc, 0x12, 0x00}}};
     for (size_t it = 0; it < sizeof operators / sizeof *operators; it++) {
         char text[64];
         expect_refused(operators[it].name, operators[it].code, operators[it].length, ALL & ~operators[it].feature, operators[it].why);

@@ -52,6 +52,10 @@ const (
 	LegacyExceptions WasmFeatures = 1 << 21
 	// CrateLimits: no proposal: the limits of the Rust crate's readers; see "Gates".
 	CrateLimits WasmFeatures = 1 << 22
+	// WideArithmetic: sums, differences and products of integers of 128 bits.
+	WideArithmetic WasmFeatures = 1 << 23
+	// MemoryControl: memory.discard, which gives up the content of pages.
+	MemoryControl WasmFeatures = 1 << 24
 )
 
 const (
@@ -92,7 +96,9 @@ const (
 		ComponentModel |
 		VectorOperators |
 		AtomicOperators |
-		LegacyExceptions
+		LegacyExceptions |
+		WideArithmetic |
+		MemoryControl
 )
 
 var names = map[string]WasmFeatures{
@@ -119,4 +125,6 @@ var names = map[string]WasmFeatures{
 	"ATOMIC_OPERATORS":          AtomicOperators,
 	"LEGACY_EXCEPTIONS":         LegacyExceptions,
 	"CRATE_LIMITS":              CrateLimits,
+	"WIDE_ARITHMETIC":           WideArithmetic,
+	"MEMORY_CONTROL":            MemoryControl,
 }

@@ -17,6 +17,7 @@ use Rattle.wasm_operators.specs.WasmOperatorsPlain.declared.conversions.Conversi
 use Rattle.wasm_operators.specs.WasmOperatorsPlain.declared.structs.StructOperator.{StructOperator}
 use Rattle.wasm_operators.specs.WasmOperatorsPlain.declared.structs.StructOperator.TheVariants.{StructNew}
 use Rattle.wasm_operators.specs.WasmOperatorsPlain.declared.arrays.ArrayOperator.{ArrayOperator}
+use Rattle.wasm_operators.specs.WasmOperatorsAtomic.declared.wide.WideOperator.{WideOperator}
 use Rattle.wasm_operators.specs.WasmOperatorsPlain.declared.arrays.ArrayOperator.TheVariants.{ArrayNew}
 use Rattle.wasm_operators.specs.WasmOperatorsPlain.declared.signatures.Signature.{Signature as OperatorSignature}
 use Rattle.wasm_operators.specs.WasmOperatorsPlain.declared.signatures.Signature.TheVariants.{Unary, Binary}
@@ -25,7 +26,7 @@ use Rattle.wasm_operator_steps.specs.Forms.{memarg_of}
 use Rattle.wasm_operator_steps.specs.Bodies.{Surroundings}
 use Rattle.wasm_operator_steps.specs.Matching.{matches_vals}
 use Rattle.wasm_operator_steps.specs.Actions.{OperandTypes, these, label, returned, repeated, front, last, joined, params, results, of_type, of_function, table_address, Check, each_matches}
-use Rattle.wasm_operator_steps.specs.Shapes.{Shape, plain, ending, measuring, comparing, converting, computing, table_shape, access_shape, memory_shape, conversion_shape, struct_shape, array_shape, address_of, nothing, one, nullable_to, difference, returns, holds_functions, indirect_checks, reference_to, branch_checks, kept}
+use Rattle.wasm_operator_steps.specs.Shapes.{Shape, plain, ending, measuring, comparing, converting, computing, table_shape, access_shape, memory_shape, conversion_shape, struct_shape, array_shape, wide_shape, address_of, nothing, one, nullable_to, difference, returns, holds_functions, indirect_checks, reference_to, branch_checks, kept}
 use Rattle.wasm_operator_steps.specs.Meanings.{signature_at, address}
 use Rattle.wasm_operator_steps.specs.Meanings as meaning
 use Rattle.wasm_spec_instructions.specs.ValueTypes.{ValueType, val, vals, reference_at, Match}
@@ -107,6 +108,9 @@ struct-computes _ = refl
 pub array-computes : (op : ArrayOperator) → is_computing (array_shape op) ≡ true
 array-computes (ArrayNew x) = refl
 array-computes _ = refl
+
+pub wide-computes : (op : WideOperator) → is_computing (wide_shape op) ≡ true
+wide-computes op = refl
 
 address-computes : (o : Option MemArg) → is_fixed (address_of o) ≡ true
 address-computes None = refl

@@ -11,6 +11,7 @@ use crate::legacy::legacy_arity;
 use crate::module::ModuleArity;
 use crate::values::{
     access_arity, memory_arity, numeric_arity, saturating_arity, table_arity, variable_arity,
+    wide_arity,
 };
 use wasm_operators::Operator;
 use wasm_operators::operators_atomic::{atomic_form, vector_form};
@@ -39,6 +40,7 @@ fn counts_of<M: ModuleArity>(op: &Operator, resources: &M) -> Option<(u128, u128
         Operator::Array(op) => Some(array_arity(op)),
         Operator::Vector(op, values) => Some(form_counts(vector_form(*op), *values)),
         Operator::Atomic(op, values) => Some(form_counts(atomic_form(*op), *values)),
+        Operator::Wide(op) => Some(wide_arity(*op)),
     }
 }
 

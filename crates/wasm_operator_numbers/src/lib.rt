@@ -10,6 +10,7 @@ mod numbers;
 mod reach;
 mod step;
 mod tables;
+mod wide;
 
 pub use accesses::access_memory;
 pub use allowed::allows_number;
@@ -20,6 +21,7 @@ pub use numbers::{compute, constant};
 pub use reach::table_reached;
 pub use step::step_table;
 pub use tables::{table_fill, table_get, table_grow, table_set, table_size};
+pub use wide::step_wide;
 
 /// Passed on from `wasm_operator_stacks`.
 pub mod operator_stacks {

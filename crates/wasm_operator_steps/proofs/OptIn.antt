@@ -2,11 +2,13 @@
 use Rattle.std.proofs.Common.{◌≡◌, refl, ℕ, ◌≤◌, ◌<◌, Bool, true, false, not, ◌||◌, leb, List, [], ◌∷◌, ◌++◌, length}
 use Rattle.std.specs.Prelude.{Option, Some, None}
 use Rattle.std.proofs.lemmas.Bool.{le-leb, lt-leb}
+use Rattle.wasm_spec_rules.specs.WasmSpec.Syntax.{i64}
 use Rattle.wasm_spec_rules.specs.WasmSpec.MatchingTests.{World}
 use Rattle.wasm_spec_rules.specs.Attempts.{◌>>=◌, guard}
 use Rattle.wasm_spec_rules.specs.WasmSpec.CrateLimits.{most_clauses}
 use Rattle.wasm_operators.specs.Control.{try_table}
-use Rattle.wasm_operators.specs.Instructions.{Instruction, control, vector, atomic}
+use Rattle.wasm_operators.specs.Instructions.{Instruction, control, memory, vector, atomic, wide}
+use Rattle.wasm_operators.specs.WasmOperatorsPlain.declared.memories.BulkMemoryOperator.TheVariants.{MemoryDiscard}
 use Rattle.wasm_operator_steps.specs.Bodies.{Surroundings}
 use Rattle.wasm_operator_steps.specs.Machine.{State}
 use Rattle.wasm_operators.specs.WasmOperatorsAtomic.WasmOperatorsVector.Forms as vectors
@@ -14,10 +16,10 @@ use Rattle.wasm_operators.specs.WasmOperatorsAtomic.Forms as atomics
 use Rattle.wasm_operators.specs.WasmOperatorsAtomic.WasmOperatorsVector.declared.forms.Form.{Form}
 use Rattle.wasm_operators.specs.declared.immediates.ImmediateValues.{ImmediateValues}
 use Rattle.wasm_operator_steps.specs.Forms.{types_taken, types_given, memarg_of}
-use Rattle.wasm_operator_steps.specs.Actions.{Needed, Check, has, Action, need, take, give, enter, these, joined, simd, threads, vector_operators, atomic_operators, exceptions, few_clauses}
+use Rattle.wasm_operator_steps.specs.Actions.{Needed, Check, has, Action, need, take, give, enter, these, joined, simd, threads, vector_operators, atomic_operators, exceptions, few_clauses, memory_address, wide_arithmetic, memory_control}
 use Rattle.wasm_operator_steps.specs.Meanings.{is_on, holds, run}
 use Rattle.wasm_operator_steps.specs.Machine.{try_table_kind}
-use Rattle.wasm_operator_steps.specs.Shapes.{shape_of, form_checks, address_of, nothing, block_checks, catch_checks}
+use Rattle.wasm_operator_steps.specs.Shapes.{shape_of, form_checks, address_of, nothing, block_checks, catch_checks, wide_taken}
 use Rattle.wasm_operator_steps.specs.Steps.{checked, actions_of, is_open, step_in}
 use Rattle.wasm_operator_steps.specs.Laws.{OperatorsAreOptIn, ClausesAreLimited}
 
@@ -46,6 +48,8 @@ operators_are_opt_in W B = record {
   needs_simd = λ e op values. step_by W B (vector op values) (second W B (has vector_operators) simd (behind (vectors.form_of op) values) e);
   needs_atomic_operators = λ e op values. step_by W B (atomic op values) (first W B atomic_operators (need (has threads) ∷ behind (atomics.form_of op) values) e);
   needs_threads = λ e op values. step_by W B (atomic op values) (second W B (has atomic_operators) threads (behind (atomics.form_of op) values) e);
+  needs_wide_arithmetic = λ e op. step_by W B (wide op) (first W B wide_arithmetic (take (these (wide_taken op)) ∷ give (these (i64 ∷ i64 ∷ [])) ∷ []) e);
+  needs_memory_control = λ e x. step_by W B (memory (MemoryDiscard x)) (first W B memory_control (take (joined (memory_address x) (memory_address x)) ∷ give nothing ∷ []) e);
 }
 
 -- a number against a limit that is asked for, that isn't, and that the number keeps

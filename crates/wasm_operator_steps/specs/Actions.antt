@@ -34,7 +34,7 @@ pub data OperandTypes : Type 0 where
 
 -- the proposals that an instruction may need, and no more than so many catch clauses where limits are asked for
 pub data Needed : Type 0 where
-  multi_value reference_types bulk_memory exceptions function_references gc shared_everything_threads custom_descriptors simd threads vector_operators atomic_operators legacy_exceptions : Needed
+  multi_value reference_types bulk_memory exceptions function_references gc shared_everything_threads custom_descriptors simd threads vector_operators atomic_operators legacy_exceptions wide_arithmetic memory_control : Needed
   few_clauses : ℕ → Needed
 
 -- Checks:

@@ -13,7 +13,9 @@ use Rattle.wasm_operators.specs.WasmOperatorsPlain.declared.numeric.NumericOpera
 use Rattle.wasm_operators.specs.Control.{Block, try_table}
 use Rattle.wasm_operators.specs.declared.control.Catch.{Catch}
 use Rattle.wasm_operators.specs.Maps.{map_block}
-use Rattle.wasm_operators.specs.Instructions.{Instruction, control, numeric, legacy, vector, atomic}
+use Rattle.wasm_operators.specs.Instructions.{Instruction, control, memory, numeric, legacy, vector, atomic, wide}
+use Rattle.wasm_operators.specs.WasmOperatorsPlain.declared.memories.BulkMemoryOperator.TheVariants.{MemoryDiscard}
+use Rattle.wasm_operators.specs.WasmOperatorsAtomic.declared.wide.WideOperator.{WideOperator}
 use Rattle.wasm_operators.specs.WasmOperatorsAtomic.WasmOperatorsVector.declared.operators.VectorOperator.{VectorOperator}
 use Rattle.wasm_operators.specs.WasmOperatorsAtomic.declared.operators.AtomicOperator.{AtomicOperator}
 use Rattle.wasm_operators.specs.declared.immediates.ImmediateValues.{ImmediateValues}
@@ -55,12 +57,15 @@ pub record KeepsVerdicts {R S : Type 0} (same : R → R → Bool) (renamed : S �
 abbrev pub VerdictsRename : (R S : Type 0) → Type 0
 VerdictsRename R S = Discrete R → (same : R → R → Bool) (renamed : S → S → Bool) (f : R → S) (B : Surroundings R) → KeepsVerdicts same renamed f B
 
--- Where one of their two features is off no step by an operator on vectors is taken, and none by an atomic operator.
+-- Where one of their two features is off no step by an operator on vectors is taken, and none by an atomic operator. Where its feature is
+-- off none is taken by a wide operator, and none by `memory.discard`.
 pub record AreOptIn {R : Type 0} (W : World R) (B : Surroundings R) : Type 0 where
   pub needs_vector_operators : B.features.vector_operators ≡ false → (op : VectorOperator) (values : ImmediateValues) (s : State R) → step_in W B (vector op values) s ≡ None
   pub needs_simd : B.features.simd ≡ false → (op : VectorOperator) (values : ImmediateValues) (s : State R) → step_in W B (vector op values) s ≡ None
   pub needs_atomic_operators : B.features.atomic_operators ≡ false → (op : AtomicOperator) (values : ImmediateValues) (s : State R) → step_in W B (atomic op values) s ≡ None
   pub needs_threads : B.features.threads ≡ false → (op : AtomicOperator) (values : ImmediateValues) (s : State R) → step_in W B (atomic op values) s ≡ None
+  pub needs_wide_arithmetic : B.features.wide_arithmetic ≡ false → (op : WideOperator) (s : State R) → step_in W B (wide op) s ≡ None
+  pub needs_memory_control : B.features.memory_control ≡ false → (x : ℕ) (s : State R) → step_in W B (memory (MemoryDiscard x)) s ≡ None
 
 abbrev pub OperatorsAreOptIn : (R : Type 0) → Type 0
 OperatorsAreOptIn R = (W : World R) (B : Surroundings R) → AreOptIn W B

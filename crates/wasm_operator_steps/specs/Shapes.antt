@@ -1,5 +1,6 @@
 -- The first table: each instruction has one of few shapes, with what it checks, takes and gives.
--- Core Specification 3.0, Validation, Instructions, and the proposals for shared references and for custom descriptors.
+-- Core Specification 3.0, Validation, Instructions, and the proposals for shared references, for custom descriptors, for wide arithmetic and
+-- for memory control.
 use Rattle.std.specs.Prelude.{ℕ, Bool, true, false, if◌then◌else◌, List, [], ◌∷◌, ◌++◌, length, map, Option, Some, None}
 use Rattle.wasm_spec_rules.specs.WasmSpec.Syntax.{AbstractHeap, any_heap, i31_heap, array_heap, func_heap, extern_heap, exn_heap, Heap, abstract_heap, concrete, Ref, Val, i32, i64, f32, f64, v128, reference}
 use Rattle.wasm_operators.specs.WasmOperatorsPlain.Signatures.{signature_of, saturating_signature_of}
@@ -27,13 +28,15 @@ use Rattle.wasm_operators.specs.WasmOperatorsPlain.declared.memories.MemoryOpera
 use Rattle.wasm_operators.specs.WasmOperatorsPlain.declared.memories.MemoryOperator.TheVariants.{I32Load, I64Load, F32Load, F64Load, I32Load8S, I32Load8U, I32Load16S, I32Load16U, I64Load8S, I64Load8U, I64Load16S, I64Load16U, I64Load32S, I64Load32U, I32Store, I64Store, F32Store, F64Store, I32Store8, I32Store16, I64Store8, I64Store16, I64Store32}
 use Rattle.wasm_operators.specs.WasmOperatorsPlain.declared.memories.MemArg.{MemArg}
 use Rattle.wasm_operators.specs.WasmOperatorsPlain.declared.memories.BulkMemoryOperator.{BulkMemoryOperator}
-use Rattle.wasm_operators.specs.WasmOperatorsPlain.declared.memories.BulkMemoryOperator.TheVariants.{MemorySize, MemoryGrow, MemoryInit, DataDrop, MemoryCopy, MemoryFill}
+use Rattle.wasm_operators.specs.WasmOperatorsPlain.declared.memories.BulkMemoryOperator.TheVariants.{MemorySize, MemoryGrow, MemoryInit, DataDrop, MemoryCopy, MemoryFill, MemoryDiscard}
 use Rattle.wasm_operators.specs.WasmOperatorsPlain.declared.constants.ConstantOperator.{ConstantOperator}
 use Rattle.wasm_operators.specs.WasmOperatorsPlain.declared.constants.ConstantOperator.TheVariants.{I32Const, I64Const, F32Const, F64Const, V128Const}
 use Rattle.wasm_operators.specs.WasmOperatorsPlain.declared.conversions.ConversionOperator.{ConversionOperator}
 use Rattle.wasm_operators.specs.WasmOperatorsPlain.declared.conversions.ConversionOperator.TheVariants.{AnyConvertExtern, ExternConvertAny, RefI31, I31GetS, I31GetU, RefI31Shared}
 use Rattle.wasm_operators.specs.WasmOperatorsPlain.declared.structs.StructOperator.{StructOperator}
 use Rattle.wasm_operators.specs.WasmOperatorsPlain.declared.structs.StructOperator.TheVariants.{StructNew, StructNewDefault, StructGet, StructGetS, StructGetU, StructSet, StructNewDesc, StructNewDefaultDesc}
+use Rattle.wasm_operators.specs.WasmOperatorsAtomic.declared.wide.WideOperator.{WideOperator}
+use Rattle.wasm_operators.specs.WasmOperatorsAtomic.declared.wide.WideOperator.TheVariants.{I64Add128, I64Sub128, I64MulWideS, I64MulWideU}
 use Rattle.wasm_operators.specs.WasmOperatorsPlain.declared.arrays.ArrayOperator.{ArrayOperator}
 use Rattle.wasm_operators.specs.WasmOperatorsPlain.declared.arrays.ArrayOperator.TheVariants.{ArrayNew, ArrayNewDefault, ArrayNewFixed, ArrayNewData, ArrayNewElem, ArrayGet, ArrayGetS, ArrayGetU, ArraySet, ArrayLen, ArrayFill, ArrayCopy, ArrayInitData, ArrayInitElem}
 use Rattle.wasm_operator_steps.specs.Machine.{Kind, block_kind, loop_kind, if_kind, try_table_kind, legacy_try_kind, legacy_catch_kind, legacy_catch_all_kind}
@@ -44,7 +47,7 @@ use Rattle.wasm_operators.specs.WasmOperatorsAtomic.declared.operators.AtomicOpe
 use Rattle.wasm_operators.specs.WasmOperatorsAtomic.WasmOperatorsVector.declared.forms.Form.{Form}
 use Rattle.wasm_operators.specs.declared.immediates.ImmediateValues.{ImmediateValues}
 use Rattle.wasm_operator_steps.specs.Forms.{types_taken, types_given, memarg_of}
-use Rattle.wasm_operator_steps.specs.Actions.{of_type, of_function, of_tag, OperandTypes, these, params, results, label, returned, local, global, function_reference, new_reference, fields, element, field, table_address, memory_address, table_element, segment, lesser_table_address, lesser_memory_address, top, descriptor_of, repeated, front, last, joined, Needed, multi_value, reference_types, bulk_memory, exceptions, function_references, gc, shared_everything_threads, custom_descriptors, legacy_exceptions, few_clauses, Check, has, allows, global_is_mutable, local_is_set, function_is_referenced, is_exception, each_matches, may_be_cast, can_be_tested, is_aligned, fields_have_defaults, has_no_descriptor, field_is_mutable, field_is_packed, element_is_mutable, element_has_default, element_is_number, element_is_packed, element_is_storable, data_is_there, segment_is_there, reaches_global, reaches_table, reaches_type, reaches_function, suits, simd, threads, vector_operators, atomic_operators}
+use Rattle.wasm_operator_steps.specs.Actions.{of_type, of_function, of_tag, OperandTypes, these, params, results, label, returned, local, global, function_reference, new_reference, fields, element, field, table_address, memory_address, table_element, segment, lesser_table_address, lesser_memory_address, top, descriptor_of, repeated, front, last, joined, Needed, multi_value, reference_types, bulk_memory, exceptions, function_references, gc, shared_everything_threads, custom_descriptors, legacy_exceptions, few_clauses, Check, has, allows, global_is_mutable, local_is_set, function_is_referenced, is_exception, each_matches, may_be_cast, can_be_tested, is_aligned, fields_have_defaults, has_no_descriptor, field_is_mutable, field_is_packed, element_is_mutable, element_has_default, element_is_number, element_is_packed, element_is_storable, data_is_there, segment_is_there, reaches_global, reaches_table, reaches_type, reaches_function, suits, simd, threads, vector_operators, atomic_operators, wide_arithmetic, memory_control}
 
 -- Shapes: takes some operands and gives others; takes some, and what follows isn't reached; takes some and enters a block; `end`; `else`;
 -- takes any operand; chooses one of two; tests a reference for null; asserts that it isn't null; branches where it is null; branches
@@ -220,6 +223,7 @@ memory_shape (MemoryFill x) = plain (has bulk_memory ∷ []) (joined (memory_add
 memory_shape (MemoryCopy x y) = plain (has bulk_memory ∷ []) (joined (memory_address x) (joined (memory_address y) (lesser_memory_address x y))) nothing
 memory_shape (MemoryInit y x) = plain (has bulk_memory ∷ data_is_there y ∷ []) (with_i32s (memory_address x) (i32 ∷ i32 ∷ [])) nothing
 memory_shape (DataDrop y) = plain (has bulk_memory ∷ data_is_there y ∷ []) nothing nothing
+memory_shape (MemoryDiscard x) = plain (has memory_control ∷ []) (joined (memory_address x) (memory_address x)) nothing
 
 -- Numeric Instructions, and the constant of Vector Instructions
 abbrev pub constant_type : ConstantOperator → Val ℕ
@@ -346,6 +350,16 @@ vector_shape op values = form_shape (has vector_operators ∷ has simd ∷ []) (
 abbrev pub atomic_shape : AtomicOperator → ImmediateValues → Shape
 atomic_shape op values = form_shape (has atomic_operators ∷ has threads ∷ []) (atomics.form_of op) values
 
+-- The instructions of the wide-arithmetic proposal: a number of 128 bits is two of 64 bits, and each instruction gives one
+abbrev pub wide_taken : WideOperator → List (Val ℕ)
+wide_taken I64Add128 = i64 ∷ i64 ∷ i64 ∷ i64 ∷ []
+wide_taken I64Sub128 = i64 ∷ i64 ∷ i64 ∷ i64 ∷ []
+wide_taken I64MulWideS = i64 ∷ i64 ∷ []
+wide_taken I64MulWideU = i64 ∷ i64 ∷ []
+
+abbrev pub wide_shape : WideOperator → Shape
+wide_shape op = plain (has wide_arithmetic ∷ []) (these (wide_taken op)) (these (i64 ∷ i64 ∷ []))
+
 -- all instructions
 abbrev pub shape_of : Instruction ℕ → Shape
 shape_of (instruction.control op) = control_shape op
@@ -366,3 +380,4 @@ shape_of (instruction.structure op) = struct_shape op
 shape_of (instruction.array op) = array_shape op
 shape_of (instruction.vector op values) = vector_shape op values
 shape_of (instruction.atomic op values) = atomic_shape op values
+shape_of (instruction.wide op) = wide_shape op

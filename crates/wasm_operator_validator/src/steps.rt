@@ -12,7 +12,7 @@ use wasm_operator_blocks::validator_resources::WasmModuleResources;
 use wasm_operator_blocks::{step_call, step_control, step_legacy, step_parametric, step_variable};
 use wasm_operator_casts::{step_cast, step_conversion, step_reference};
 use wasm_operator_fast::operator_numbers::{
-    access_memory, bulk_memory, compute, constant, step_atomic, step_table, step_vector,
+    access_memory, bulk_memory, compute, constant, step_atomic, step_table, step_vector, step_wide,
 };
 use wasm_operator_structs::step_struct;
 use wasm_operators::Operator;
@@ -57,5 +57,6 @@ pub fn step<'a, A: Allocator, T: WasmModuleResources>(
         Operator::Array(op) => step_array(stacks, resources, op),
         Operator::Vector(op, values) => step_vector(stacks, resources, op, values),
         Operator::Atomic(op, values) => step_atomic(stacks, resources, op, values),
+        Operator::Wide(op) => step_wide(stacks, resources, op),
     }
 }

@@ -6,6 +6,7 @@ use Rattle.wasm_operators_plain.specs.WasmSpec.Values.{byte_at, u32_at, s33_inde
 use Rattle.wasm_operators_plain.specs.WasmSpec.BinaryTypes.{val_at}
 use Rattle.wasm_operators_plain.proofs.WasmSpec.Front.{Reads, reads_none, reads_here, reads_value, reads_behind, reads_weaken, reads_if, reads_map, reads_then, reads_list, signed-reads, heap-reads, val-reads}
 use Rattle.wasm_operators_plain.specs.Numeric.{numeric_from, saturating_from}
+use Rattle.wasm_operators_atomic.specs.Wide.{wide_from}
 use Rattle.wasm_operators_plain.specs.Memories.{access_from}
 use Rattle.wasm_operators_plain.specs.Conversions.{conversion_from, shared_from}
 use Rattle.wasm_operators_plain.specs.declared.memories.MemoryOperator.{MemoryOperator}
@@ -172,7 +173,9 @@ module _ {more : List ℕ} where
     bulk-reads n bytes =
         reads_if (nat_lt n 8) (reads_value _ (saturating_from n))
         (reads_if (nat_lt n 12) (reads_map _ (memory-reads n bytes))
-        (reads_map _ (table-reads n bytes)))
+        (reads_if (nat_lt n 18) (reads_map _ (table-reads n bytes))
+        (reads_if (nat_lt n 19) (reads_map _ (memory-reads n bytes))
+        (reads_value _ (wide_from n)))))
 
     vectors-reads : (n : ℕ) (bytes : List ℕ) → Reads more 0 bytes (vectors_from to n bytes) (vectors_from to n (bytes ++ more))
     unfolding vectors_from

@@ -3,6 +3,7 @@ use Rattle.std.proofs.Common.{refl, ℕ, nat_lt, ◌==◌, List, Option, Some, N
 use Rattle.wasm_operators_plain.specs.WasmSpec.Values.{byte_at, u32_at, s33_index_at, list_at}
 use Rattle.wasm_operators_plain.proofs.WasmSpec.Renaming.{Renames, renames_none, renames_some, renames_if, renames_then, renames_map, renames_same_then, renames_same_map, renames_list, heap-renames, val-renames}
 use Rattle.wasm_operators_plain.specs.Numeric.{numeric_from, saturating_from}
+use Rattle.wasm_operators_atomic.specs.Wide.{wide_from}
 use Rattle.wasm_operators_plain.specs.Calls.{call_from}
 use Rattle.wasm_operators_plain.specs.Variables.{variable_from}
 use Rattle.wasm_operators_plain.specs.Tables.{table_access_from, table_from}
@@ -135,7 +136,9 @@ module _ {R S : Type 0} (f : R → S) (to : ℕ → R) where
   bulk-renames n bytes =
       renames_if (nat_lt n 8) (renames_same_map (saturating_from n) _ _ (λ x. refl))
       (renames_if (nat_lt n 12) (renames_same_map (memory_from n bytes) _ _ (λ x. refl))
-      (renames_same_map (table_from n bytes) _ _ (λ x. refl)))
+      (renames_if (nat_lt n 18) (renames_same_map (table_from n bytes) _ _ (λ x. refl))
+      (renames_if (nat_lt n 19) (renames_same_map (memory_from n bytes) _ _ (λ x. refl))
+      (renames_same_map (wide_from n) _ _ (λ x. refl)))))
 
   vectors-renames : (n : ℕ) (bytes : List ℕ) → Renames (map_instruction f) (vectors_from to n bytes) (vectors_from then_renamed n bytes)
   unfolding vectors_from

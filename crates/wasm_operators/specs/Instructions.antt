@@ -11,6 +11,7 @@ use Rattle.wasm_operators_plain.specs.Tables.{table_access_from, table_from}
 use Rattle.wasm_operators_plain.specs.Memories.{access_from, memarg_at, memory_size_from, memory_from}
 use Rattle.wasm_operators_plain.specs.Constants.{constant_from, vector_from}
 use Rattle.wasm_operators_plain.specs.Numeric.{numeric_from, saturating_from}
+use Rattle.wasm_operators_atomic.specs.Wide.{wide_from}
 use Rattle.wasm_operators.specs.References.{Reference, Cast, reference_from, cast_from}
 use Rattle.wasm_operators_plain.specs.Conversions.{conversion_from, shared_from}
 use Rattle.wasm_operators_plain.specs.Structs.{struct_from}
@@ -27,6 +28,7 @@ use Rattle.wasm_operators_plain.specs.declared.numeric.SaturatingOperator.{Satur
 use Rattle.wasm_operators_plain.specs.declared.conversions.ConversionOperator.{ConversionOperator}
 use Rattle.wasm_operators_plain.specs.declared.structs.StructOperator.{StructOperator}
 use Rattle.wasm_operators_plain.specs.declared.arrays.ArrayOperator.{ArrayOperator}
+use Rattle.wasm_operators_atomic.specs.declared.wide.WideOperator.{WideOperator}
 use Rattle.wasm_operators_atomic.specs.WasmOperatorsVector.Codes as vectors
 use Rattle.wasm_operators_atomic.specs.WasmOperatorsVector.Forms as vector_forms
 use Rattle.wasm_operators_atomic.specs.WasmOperatorsVector.declared.forms.Form.{Form}
@@ -57,6 +59,7 @@ pub data Instruction (R : Type 0) : Type 0 where
   array : ArrayOperator → Instruction R
   vector : VectorOperator → ImmediateValues → Instruction R
   atomic : AtomicOperator → ImmediateValues → Instruction R
+  wide : WideOperator → Instruction R
 
 -- what was read of a family, as an instruction
 abbrev pub of_family : {X Y : Type 0} → (X → Y) → Option (X × List ℕ) → Option (Y × List ℕ)
@@ -91,7 +94,9 @@ module _ {R : Type 0} (to : ℕ → R) where
   bulk_from n bytes =
       if nat_lt n 8 then with_nothing saturating bytes (saturating_from n)
       else (if nat_lt n 12 then of_family memory (memory_from n bytes)
-      else of_family table (table_from n bytes))
+      else (if nat_lt n 18 then of_family table (table_from n bytes)
+      else (if nat_lt n 19 then of_family memory (memory_from n bytes)
+      else with_nothing wide bytes (wide_from n))))
 
   -- behind the prefix fd
   unfoldable pub vectors_from : ℕ → List ℕ → Option (Instruction R × List ℕ)

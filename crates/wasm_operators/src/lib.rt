@@ -21,6 +21,7 @@ pub use legacy::LegacyOperator;
 pub use lists::{Immediate, Listed, ListedItems, read_listed};
 pub use operators::{Operator, read_operator};
 pub use references::{CastOperator, ReferenceOperator};
+pub use wasm_operators_atomic::WideOperator;
 pub use wasm_operators_plain::{
     ArrayOperator, BulkMemoryOperator, CallOperator, ConstantOperator, ConversionOperator, Ieee32,
     Ieee64, MemArg, MemoryOperator, NumericOperator, SaturatingOperator, StructOperator,

@@ -15,7 +15,7 @@ use crate::immediates::{ImmediateValues, read_immediates};
 use crate::legacy::{LegacyOperator, read_legacy};
 use crate::references::{CastOperator, ReferenceOperator, read_cast, read_reference};
 use wasm_operators_atomic::operators_vector::{self, VectorOperator, vector_form};
-use wasm_operators_atomic::{AtomicOperator, atomic_form};
+use wasm_operators_atomic::{AtomicOperator, WideOperator, atomic_form, wide_from_code};
 use wasm_operators_plain::readers::BinaryReader;
 use wasm_operators_plain::readers_errors::Refusal;
 use wasm_operators_plain::{
@@ -51,7 +51,12 @@ pub enum Operator<'a> {
     /// An operator on vectors other than the constant.
     Vector(VectorOperator, ImmediateValues),
     Atomic(AtomicOperator, ImmediateValues),
+    /// An operator on integers of 128 bits (the wide-arithmetic proposal).
+    Wide(WideOperator),
 }
+
+/// An operator, or why there is none.
+type Read<'a> = Result<Operator<'a>, Refusal>;
 
 /// The operator of this code behind the prefix `0xfb`, which stood at this offset.
 #[tactic(auto, unfolding(crate::specs::Instructions::aggregate_from))]
@@ -86,11 +91,7 @@ fn read_aggregate<'a>(
 
 /// The operator of this code behind the prefix `0xfc`, which stood at this offset.
 #[tactic(auto, unfolding(crate::specs::Instructions::bulk_from))]
-fn read_bulk<'a>(
-    reader: &mut BinaryReader<'a>,
-    code: u32,
-    offset: u64,
-) -> Result<Operator<'a>, Refusal>
+fn read_bulk<'a>(reader: &mut BinaryReader<'a>, code: u32, offset: u64) -> Read<'a>
     requires { offset ≤ original reader.old + position_in reader.old }
     ensures same { SameInput reader.old reader.new }
     ensures onward { position_in reader.old ≤ position_in reader.new }
@@ -106,18 +107,21 @@ fn read_bulk<'a>(
         }
     } else if code < 12 {
         Ok(Operator::BulkMemory(read_memory(reader, code, offset)?))
-    } else {
+    } else if code < 18 {
         Ok(Operator::Table(read_table(reader, code, offset)?))
+    } else if code < 19 {
+        Ok(Operator::BulkMemory(read_memory(reader, code, offset)?))
+    } else {
+        match wide_from_code(code) {
+            Some(op) => Ok(Operator::Wide(op)),
+            None => Err(unknown_prefixed_opcode(0xfc, code, offset)),
+        }
     }
 }
 
 /// The operator of this code behind the prefix `0xfd`, which stood at this offset.
 #[tactic(auto, unfolding(crate::specs::Instructions::vectors_from))]
-fn read_on_vectors<'a>(
-    reader: &mut BinaryReader<'a>,
-    code: u32,
-    offset: u64,
-) -> Result<Operator<'a>, Refusal>
+fn read_on_vectors<'a>(reader: &mut BinaryReader<'a>, code: u32, offset: u64) -> Read<'a>
     requires { offset ≤ original reader.old + position_in reader.old }
     ensures same { SameInput reader.old reader.new }
     ensures onward { position_in reader.old ≤ position_in reader.new }
@@ -137,11 +141,7 @@ fn read_on_vectors<'a>(
 
 /// The operator of this code behind the prefix `0xfe`, which stood at this offset.
 #[tactic(auto, unfolding(crate::specs::Instructions::atomics_from))]
-fn read_atomic<'a>(
-    reader: &mut BinaryReader<'a>,
-    code: u32,
-    offset: u64,
-) -> Result<Operator<'a>, Refusal>
+fn read_atomic<'a>(reader: &mut BinaryReader<'a>, code: u32, offset: u64) -> Read<'a>
     requires { offset ≤ original reader.old + position_in reader.old }
     ensures same { SameInput reader.old reader.new }
     ensures onward { position_in reader.old ≤ position_in reader.new }

@@ -1,3 +1,4 @@
 pub use Rattle.wasm_operators_vector.specs as WasmOperatorsVector
 pub mod Codes
 pub mod Forms
+pub mod Wide

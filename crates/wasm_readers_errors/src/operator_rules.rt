@@ -173,6 +173,10 @@ pub enum OperatorRule {
     RethrowLabel,
     /// With `CRATE_LIMITS` a `try_table` has at most 10,000 catch clauses.
     CatchCount,
+    /// An operator needs `WIDE_ARITHMETIC`.
+    WideArithmetic,
+    /// An operator needs `MEMORY_CONTROL`.
+    MemoryControl,
 }
 
 /// The items of a module, and of a function, that an operator names by an index.
@@ -224,75 +228,67 @@ impl OperatorRule {
             OperatorRule::AtomicOperators => Some(WasmFeatures::ATOMIC_OPERATORS),
             OperatorRule::Threads => Some(WasmFeatures::THREADS),
             OperatorRule::LegacyExceptions => Some(WasmFeatures::LEGACY_EXCEPTIONS),
+            OperatorRule::WideArithmetic => Some(WasmFeatures::WIDE_ARITHMETIC),
+            OperatorRule::MemoryControl => Some(WasmFeatures::MEMORY_CONTROL),
             _ => None,
         }
     }
 
     /// What is said of a rule that has no index, of operands, frames and names.
     fn text<'a>(self) -> &'a str {
+        use OperatorRule::*;
         match self {
-            OperatorRule::Operand => "type mismatch: an operand of another type is expected",
-            OperatorRule::AnyOperand => "type mismatch: expected a type but nothing on stack",
-            OperatorRule::Reference => "type mismatch: expected a reference type",
-            OperatorRule::ReferenceBelow => "type mismatch: expected a reference of another type",
-            OperatorRule::Comparable =>
-                "type mismatch: expected `ref.eq` types to match `shared`-ness",
-            OperatorRule::Selected =>
-                "type mismatch: select only takes two numbers or vectors of one type",
-            OperatorRule::OperandsLeft =>
-                "type mismatch: values remaining on stack at end of block",
-            OperatorRule::Ended => "operators remaining after end of function body or expression",
-            OperatorRule::Unfinished =>
-                "control frames remain at end of function body or expression",
-            OperatorRule::ElseWithoutIf => "else found outside of an `if` block",
-            OperatorRule::MissingElse =>
-                "type mismatch: an `if` without `else` must give what it takes",
-            OperatorRule::UnsetLocal => "uninitialized local",
-            OperatorRule::ImmutableGlobal =>
-                "global is immutable: cannot modify it with `global.set`",
-            OperatorRule::UnknownLabel => "unknown label: branch depth too large",
-            OperatorRule::LabelTypes => "type mismatch: label has other types",
-            OperatorRule::UndeclaredFunction => "undeclared function reference",
-            OperatorRule::NotAFunction => "expected func type",
-            OperatorRule::NotAStruct => "expected struct type",
-            OperatorRule::NotAnArray => "expected array type",
+            Operand => "type mismatch: an operand of another type is expected",
+            AnyOperand => "type mismatch: expected a type but nothing on stack",
+            Reference => "type mismatch: expected a reference type",
+            ReferenceBelow => "type mismatch: expected a reference of another type",
+            Comparable => "type mismatch: expected `ref.eq` types to match `shared`-ness",
+            Selected => "type mismatch: select only takes two numbers or vectors of one type",
+            OperandsLeft => "type mismatch: values remaining on stack at end of block",
+            Ended => "operators remaining after end of function body or expression",
+            Unfinished => "control frames remain at end of function body or expression",
+            ElseWithoutIf => "else found outside of an `if` block",
+            MissingElse => "type mismatch: an `if` without `else` must give what it takes",
+            UnsetLocal => "uninitialized local",
+            ImmutableGlobal => "global is immutable: cannot modify it with `global.set`",
+            UnknownLabel => "unknown label: branch depth too large",
+            LabelTypes => "type mismatch: label has other types",
+            UndeclaredFunction => "undeclared function reference",
+            NotAFunction => "expected func type",
+            NotAStruct => "expected struct type",
+            NotAnArray => "expected array type",
             _ => self.text_of_types(),
         }
     }
 
     /// What is said of structures, arrays, tables, memories and tags.
     fn text_of_types<'a>(self) -> &'a str {
+        use OperatorRule::*;
         match self {
-            OperatorRule::UnknownField => "unknown field: field index out of bounds",
-            OperatorRule::ImmutableField =>
-                "invalid struct modification: struct field is immutable",
-            OperatorRule::ImmutableArray => "invalid array modification: array is immutable",
-            OperatorRule::FieldPacked => "can only use struct.get with non-packed storage types",
-            OperatorRule::FieldNotPacked =>
+            UnknownField => "unknown field: field index out of bounds",
+            ImmutableField => "invalid struct modification: struct field is immutable",
+            ImmutableArray => "invalid array modification: array is immutable",
+            FieldPacked => "can only use struct.get with non-packed storage types",
+            FieldNotPacked =>
                 "cannot use struct.get_s or struct.get_u with non-packed storage types",
-            OperatorRule::ArrayPacked => "cannot use array.get with packed storage types",
-            OperatorRule::ArrayNotPacked =>
-                "cannot use array.get_s or array.get_u with non-packed storage types",
-            OperatorRule::NoDefault => "type mismatch: field or element type is not defaultable",
-            OperatorRule::NotNumeric =>
-                "type mismatch: arrays from data have numeric or vector elements",
-            OperatorRule::ElementTypes => "type mismatch: elements of another type are expected",
-            OperatorRule::TableTypes => "type mismatch: table has another element type",
-            OperatorRule::Alignment => "alignment must not be larger than natural",
-            OperatorRule::Offset => "offset out of range: must be <= 2**32",
-            OperatorRule::Lane => "SIMD index out of bounds",
-            OperatorRule::AtomicAlignment =>
-                "atomic instructions must always specify maximum alignment",
-            OperatorRule::TagResults => "invalid exception type: non-empty tag result type",
-            OperatorRule::CatchTypes =>
-                "type mismatch: catch clause sends other types than its label has",
-            OperatorRule::MissingDataCount => "data count section required",
-            OperatorRule::CastTypes | OperatorRule::CastTypesOfHierarchy =>
+            ArrayPacked => "cannot use array.get with packed storage types",
+            ArrayNotPacked => "cannot use array.get_s or array.get_u with non-packed storage types",
+            NoDefault => "type mismatch: field or element type is not defaultable",
+            NotNumeric => "type mismatch: arrays from data have numeric or vector elements",
+            ElementTypes => "type mismatch: elements of another type are expected",
+            TableTypes => "type mismatch: table has another element type",
+            Alignment => "alignment must not be larger than natural",
+            Offset => "offset out of range: must be <= 2**32",
+            Lane => "SIMD index out of bounds",
+            AtomicAlignment => "atomic instructions must always specify maximum alignment",
+            TagResults => "invalid exception type: non-empty tag result type",
+            CatchTypes => "type mismatch: catch clause sends other types than its label has",
+            MissingDataCount => "data count section required",
+            CastTypes | CastTypesOfHierarchy =>
                 "type mismatch: cast to a type that is not a subtype",
-            OperatorRule::ReturnTypes =>
-                "type mismatch: callee returns other types than the function",
-            OperatorRule::Shared => "shared functions cannot access what is not shared",
-            OperatorRule::ContinuationTypes => "cannot test or cast continuation references",
+            ReturnTypes => "type mismatch: callee returns other types than the function",
+            Shared => "shared functions cannot access what is not shared",
+            ContinuationTypes => "cannot test or cast continuation references",
             _ => self.text_of_bodies(),
         }
     }
@@ -329,6 +325,8 @@ impl OperatorRule {
             OperatorRule::DelegateOutsideTry => "delegate found outside of a `try` block",
             OperatorRule::RethrowLabel => "invalid rethrow label: target was not a `catch` block",
             OperatorRule::CatchCount => "catches size is out of bounds",
+            OperatorRule::WideArithmetic => "wide arithmetic support is not enabled",
+            OperatorRule::MemoryControl => "memory control support is not enabled",
             _ => "invalid operator",
         }
     }

@@ -33,6 +33,8 @@ features b = record {
   atomic_operators = b;
   legacy_exceptions = b;
   crate_limits = false;
+  wide_arithmetic = b;
+  memory_control = b;
 }
 
 module _ {R : Type 0} where

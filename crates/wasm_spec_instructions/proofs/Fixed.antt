@@ -1,7 +1,7 @@
 -- The rules of shapes, read for instructions whose types the context fixes.
 use Rattle.std.proofs.Common.{◌≡◌, refl, sym, ap, ◌∙◌, ℕ, Bool, true, false, ◌==◌, List, [], ◌∷◌, ◌++◌, length, Option, map, Some, None, option_map, slice_get}
 use Rattle.std.proofs.lemmas.Bool.Decides.{Decides-eqb}
-use Rattle.wasm_operator_steps.specs.WasmSpecRules.WasmSpec.Syntax.{exn_heap, abstract_heap, concrete, Heap, Ref, Val, Field, Global, Table, Memory, i32, reference}
+use Rattle.wasm_operator_steps.specs.WasmSpecRules.WasmSpec.Syntax.{exn_heap, abstract_heap, concrete, Heap, Ref, Val, Field, Global, Table, Memory, i32, i64, reference}
 use Rattle.wasm_operator_steps.specs.WasmSpecRules.WasmSpec.MatchingTests.{World}
 use Rattle.wasm_operator_steps.specs.WasmSpecRules.Attempts.{◌>>=◌, passes}
 use Rattle.wasm_operators.specs.WasmOperatorsPlain.declared.memories.MemoryOperator.{MemoryOperator}
@@ -9,13 +9,14 @@ use Rattle.wasm_operators.specs.WasmOperatorsPlain.declared.memories.MemArg.{Mem
 use Rattle.wasm_operator_steps.specs.WasmSpecRules.Signatures.{Signature, resolve_ref, resolve_val}
 use Rattle.wasm_operator_steps.specs.Bodies.{Surroundings}
 use Rattle.wasm_operator_steps.specs.Actions.{of_type, joined, top, fields, new_reference, has_no_descriptor, reaches_type, of_function, of_tag, params, results, global, table_address, table_element, function_reference, has, reference_types, function_references, exceptions, is_exception, function_is_referenced, global_is_mutable, reaches_function, reaches_global, reaches_table}
-use Rattle.wasm_operator_steps.specs.Shapes.{Shape, plain, ending, nothing, one, reference_to, nullable_to, cast_checks, loading, getting, item, aggregate_checks}
+use Rattle.wasm_operators.specs.WasmOperatorsAtomic.declared.wide.WideOperator.TheVariants.{I64Add128, I64MulWideS}
+use Rattle.wasm_operator_steps.specs.Shapes.{Shape, plain, ending, nothing, one, reference_to, nullable_to, cast_checks, loading, getting, item, aggregate_checks, wide_shape}
 use Rattle.wasm_operator_steps.specs.Meanings.{signature_at, function_heap, top_heap, exact_if, fields_at, field_at, element_at, unpack_field, allows_memarg, table_is_64, address, ref_to}
 use Rattle.wasm_operator_steps.specs.Meanings as meaning
 use Rattle.wasm_spec_instructions.specs.ValueTypes.{ValueType, val, vals, reference_at}
 use Rattle.wasm_spec_instructions.specs.Scopes.{Scope}
 use Rattle.wasm_spec_instructions.specs.Rules.{Rule, plain_rule, ending_rule}
-use Rattle.wasm_spec_instructions.specs.Fixed.{DoesNothing, Calls, Throws, ThrowsAgain, GetsGlobal, SetsGlobal, GetsElement, RefersTo, CallsReference, CastsTo, Loads, MakesStructure, GetsField, GetsItem, FixedTypesHaveTheirRules}
+use Rattle.wasm_spec_instructions.specs.Fixed.{DoesNothing, Calls, Throws, ThrowsAgain, GetsGlobal, SetsGlobal, GetsElement, RefersTo, CallsReference, CastsTo, Loads, MakesStructure, GetsField, GetsItem, AddsWide, MultipliesWide, FixedTypesHaveTheirRules}
 use Rattle.wasm_spec_instructions.proofs.Attempts.{the_same, absent, bind-gives, bind-at}
 use Rattle.wasm_spec_instructions.proofs.Fits.{vals-append}
 use Rattle.wasm_spec_instructions.proofs.Names.{as_written}
@@ -283,6 +284,24 @@ module _ {R : Type 0} (W : World R) (B : Surroundings R) (C : Scope R) where
       (plain_rule (b.on, (b.reached, (b.unpacked, tt))) (by_null_to (i32 ∷ []) (slice_get B.context.types x) b.it b.is)
       (ap (λ (o : Option (Field R)). meaning.one (option_map unpack_field o)) b.there))
 
+  adds_wide : (ts us : List (ValueType R)) → Rule W B C (wide_shape I64Add128) ts us → AddsWide W B ts us
+  adds_wide ts us (plain_rule {ts = taken} {us = given} h e f) =
+      record { on = h.0; takes = ap vals (sym (the_same (i64 ∷ i64 ∷ i64 ∷ i64 ∷ []) taken e)); gives = ap vals (sym (the_same (i64 ∷ i64 ∷ []) given f)) }
+
+  by_adding_wide : (ts us : List (ValueType R)) → AddsWide W B ts us → Rule W B C (wide_shape I64Add128) ts us
+  by_adding_wide ts us b =
+      as_written W B C (wide_shape I64Add128) ts us (val i64 ∷ val i64 ∷ val i64 ∷ val i64 ∷ []) (val i64 ∷ val i64 ∷ []) b.takes b.gives
+      (plain_rule {ts = i64 ∷ i64 ∷ i64 ∷ i64 ∷ []} {us = i64 ∷ i64 ∷ []} (b.on, tt) refl refl)
+
+  multiplies_wide : (ts us : List (ValueType R)) → Rule W B C (wide_shape I64MulWideS) ts us → MultipliesWide W B ts us
+  multiplies_wide ts us (plain_rule {ts = taken} {us = given} h e f) =
+      record { on = h.0; takes = ap vals (sym (the_same (i64 ∷ i64 ∷ []) taken e)); gives = ap vals (sym (the_same (i64 ∷ i64 ∷ []) given f)) }
+
+  by_multiplying_wide : (ts us : List (ValueType R)) → MultipliesWide W B ts us → Rule W B C (wide_shape I64MulWideS) ts us
+  by_multiplying_wide ts us b =
+      as_written W B C (wide_shape I64MulWideS) ts us (val i64 ∷ val i64 ∷ []) (val i64 ∷ val i64 ∷ []) b.takes b.gives
+      (plain_rule {ts = i64 ∷ i64 ∷ []} {us = i64 ∷ i64 ∷ []} (b.on, tt) refl refl)
+
 pub fixed_types_have_their_rules : (R : Type 0) → FixedTypesHaveTheirRules R
 fixed_types_have_their_rules R W B C = record {
   nop = λ ts us. (rests W B C ts us, by_rest W B C ts us);
@@ -299,4 +318,6 @@ fixed_types_have_their_rules R W B C = record {
   struct_new = λ x ts us. (makes W B C x ts us, by_making W B C x ts us);
   struct_get = λ x i ts us. (gets_field W B C x i ts us, by_getting_field W B C x i ts us);
   array_get = λ x ts us. (gets_item W B C x ts us, by_getting_item W B C x ts us);
+  add128 = λ ts us. (adds_wide W B C ts us, by_adding_wide W B C ts us);
+  mul_wide_s = λ ts us. (multiplies_wide W B C ts us, by_multiplying_wide W B C ts us);
 }

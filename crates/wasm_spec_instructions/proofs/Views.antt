@@ -21,7 +21,7 @@ use Rattle.wasm_operators.specs.WasmOperatorsPlain.declared.memories.MemoryOpera
 use Rattle.wasm_operators.specs.WasmOperatorsPlain.declared.memories.MemoryOperator.TheVariants.{I32Load, I64Load, F32Load, F64Load, I32Load8S, I32Load8U, I32Load16S, I32Load16U, I64Load8S, I64Load8U, I64Load16S, I64Load16U, I64Load32S, I64Load32U, I32Store, I64Store, F32Store, F64Store, I32Store8, I32Store16, I64Store8, I64Store16, I64Store32}
 use Rattle.wasm_operators.specs.WasmOperatorsPlain.declared.memories.MemArg.{MemArg}
 use Rattle.wasm_operators.specs.WasmOperatorsPlain.declared.memories.BulkMemoryOperator.{BulkMemoryOperator}
-use Rattle.wasm_operators.specs.WasmOperatorsPlain.declared.memories.BulkMemoryOperator.TheVariants.{MemorySize, MemoryGrow, MemoryInit, DataDrop, MemoryCopy, MemoryFill}
+use Rattle.wasm_operators.specs.WasmOperatorsPlain.declared.memories.BulkMemoryOperator.TheVariants.{MemorySize, MemoryGrow, MemoryInit, DataDrop, MemoryCopy, MemoryFill, MemoryDiscard}
 use Rattle.wasm_operators.specs.WasmOperatorsPlain.declared.conversions.ConversionOperator.{ConversionOperator}
 use Rattle.wasm_operators.specs.WasmOperatorsPlain.declared.conversions.ConversionOperator.TheVariants.{AnyConvertExtern, ExternConvertAny, RefI31, I31GetS, I31GetU, RefI31Shared}
 use Rattle.wasm_operators.specs.WasmOperatorsPlain.declared.structs.StructOperator.{StructOperator}
@@ -70,6 +70,7 @@ memory-simple (MemoryFill x) = refl
 memory-simple (MemoryCopy x y) = refl
 memory-simple (MemoryInit y x) = refl
 memory-simple (DataDrop y) = refl
+memory-simple (MemoryDiscard x) = refl
 
 reference-simple : (op : Reference ℕ) → is_simple (reference_shape op) ≡ true
 reference-simple (references.ref_null h) = refl
@@ -200,3 +201,4 @@ view (instruction.structure op) = is_plain (struct-simple op)
 view (instruction.array op) = is_plain (array-simple op)
 view (instruction.vector op values) = is_plain refl
 view (instruction.atomic op values) = is_plain refl
+view (instruction.wide op) = is_plain refl

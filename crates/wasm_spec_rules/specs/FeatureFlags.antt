@@ -28,4 +28,6 @@ features_of flags = record {
   atomic_operators = has_flag 1048576 flags;
   legacy_exceptions = has_flag 2097152 flags;
   crate_limits = has_flag 4194304 flags;
+  wide_arithmetic = has_flag 8388608 flags;
+  memory_control = has_flag 16777216 flags;
 }

@@ -41,6 +41,8 @@ first_version = record {
   atomic_operators = false;
   legacy_exceptions = false;
   crate_limits = false;
+  wide_arithmetic = false;
+  memory_control = false;
 }
 
 -- a table of so many entries

@@ -9,6 +9,7 @@ use Rattle.wasm_spec.specs.Values.{unsigned_at, signed_at, not_negative, u32_at,
 use Rattle.wasm_spec.specs.BinaryTypes.{abstract_heap_from, abstract_heap_at, plain_heap_from, heap_at}
 use Rattle.wasm_spec.proofs.Front.{IsRest, ReadsBy, Reads, reads_none, reads_here, reads_behind, reads_weaken, reads_map, reads_then, reads_value, unsigned-reads, signed-reads, heap-reads}
 use Rattle.wasm_operators.specs.WasmOperatorsPlain.Numeric.{numeric_from, saturating_from}
+use Rattle.wasm_operators.specs.WasmOperatorsAtomic.Wide.{wide_from}
 use Rattle.wasm_operators.specs.WasmOperatorsPlain.Immediates.{one_index, two_indices}
 use Rattle.wasm_operators.specs.WasmOperatorsPlain.Variables.{variable_from}
 use Rattle.wasm_operators.specs.WasmOperatorsPlain.Memories.{access_from}
@@ -349,7 +350,10 @@ module _ (F : Features) where
   unfolding bulk_from
   bulk-ends n bytes =
       ends_if (nat_lt n 8) (ends_value _ (saturating_from n))
-      (ends_if (nat_lt n 12) (ends_map _ (ends_never (λ c. no))) (ends_map _ (ends_never (λ c. no))))
+      (ends_if (nat_lt n 12) (ends_map _ (ends_never (λ c. no)))
+      (ends_if (nat_lt n 18) (ends_map _ (ends_never (λ c. no)))
+      (ends_if (nat_lt n 19) (ends_map _ (ends_never (λ c. no)))
+      (ends_value _ (wide_from n)))))
 
   vector-ends : (found : Option VectorOperator) (bytes : List ℕ) → Ends IsConstantOne bytes (with_form vector vector_forms.form_of bytes found)
   vector-ends None bytes = ends_none
@@ -416,7 +420,10 @@ module _ (F : Features) where
     unfolding bulk_from
     bulk-cuts n bytes =
         cuts_if (nat_lt n 8) (cuts_value bytes _ (saturating_from n))
-        (cuts_if (nat_lt n 12) (cuts_map _ (cuts_never (λ c. no))) (cuts_map _ (cuts_never (λ c. no))))
+        (cuts_if (nat_lt n 12) (cuts_map _ (cuts_never (λ c. no)))
+        (cuts_if (nat_lt n 18) (cuts_map _ (cuts_never (λ c. no)))
+        (cuts_if (nat_lt n 19) (cuts_map _ (cuts_never (λ c. no)))
+        (cuts_value bytes _ (wide_from n)))))
 
     vector-one-cuts : (found : Option VectorOperator) (bytes : List ℕ) → Cuts IsConstantOne more (with_form vector vector_forms.form_of bytes found) (with_form vector vector_forms.form_of (bytes ++ more) found)
     vector-one-cuts None bytes = cuts_none

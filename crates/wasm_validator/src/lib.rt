@@ -103,6 +103,7 @@ pub use wasm_validator_modules::operators::TryTable;
 pub use wasm_validator_modules::operators::V128;
 pub use wasm_validator_modules::operators::VariableOperator;
 pub use wasm_validator_modules::operators::VectorOperator;
+pub use wasm_validator_modules::operators::WideOperator;
 pub use wasm_validator_modules::operators::max_align;
 pub use wasm_validator_modules::operators::read_block_type;
 pub use wasm_validator_modules::operators::read_expression;

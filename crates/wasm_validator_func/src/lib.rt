@@ -29,7 +29,7 @@ pub mod operators {
         ConstantOperator, ControlOperator, ConversionOperator, FrameKind, Ieee32, Ieee64,
         Immediate, ImmediateValues, LegacyOperator, Listed, ListedItems, MemArg, MemoryOperator,
         NumericOperator, Operator, ParametricOperator, ReferenceOperator, SaturatingOperator,
-        StructOperator, TableOperator, TryTable, V128, VariableOperator, max_align,
+        StructOperator, TableOperator, TryTable, V128, VariableOperator, WideOperator, max_align,
         read_block_type, read_expression, read_memarg,
     };
 }

@@ -42,7 +42,8 @@ pub mod operators {
         Ieee32, Ieee64, Immediate, ImmediateValues, LegacyOperator, Listed, ListedItems, MemArg,
         MemoryOperator, NumberType, NumericOperator, Operator, ParametricOperator,
         ReferenceOperator, SaturatingOperator, StructOperator, TableOperator, TryTable, V128,
-        VariableOperator, VectorOperator, max_align, read_block_type, read_expression, read_memarg,
+        VariableOperator, VectorOperator, WideOperator, max_align, read_block_type,
+        read_expression, read_memarg,
     };
     pub use wasm_validator_func::read_operator;
 }

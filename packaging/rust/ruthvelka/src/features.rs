@@ -51,6 +51,10 @@ impl WasmFeatures {
     pub const LEGACY_EXCEPTIONS: WasmFeatures = WasmFeatures(1 << 21);
     /// no proposal: the limits of the Rust crate's readers; see "Gates"
     pub const CRATE_LIMITS: WasmFeatures = WasmFeatures(1 << 22);
+    /// sums, differences and products of integers of 128 bits
+    pub const WIDE_ARITHMETIC: WasmFeatures = WasmFeatures(1 << 23);
+    /// memory.discard, which gives up the content of pages
+    pub const MEMORY_CONTROL: WasmFeatures = WasmFeatures(1 << 24);
     /// What is on by default: the Core Specification 3.0 without its operators on vectors, but with `v128.const`, and shared memories.
     pub const STANDARD: WasmFeatures = WasmFeatures(
         WasmFeatures::MUTABLE_GLOBAL.0
@@ -91,12 +95,14 @@ impl WasmFeatures {
             | WasmFeatures::COMPONENT_MODEL.0
             | WasmFeatures::VECTOR_OPERATORS.0
             | WasmFeatures::ATOMIC_OPERATORS.0
-            | WasmFeatures::LEGACY_EXCEPTIONS.0,
+            | WasmFeatures::LEGACY_EXCEPTIONS.0
+            | WasmFeatures::WIDE_ARITHMETIC.0
+            | WasmFeatures::MEMORY_CONTROL.0,
     );
 }
 
 /// Each feature by its name.
-pub(crate) const NAMES: [(&str, WasmFeatures); 23] = [
+pub(crate) const NAMES: [(&str, WasmFeatures); 25] = [
     ("MUTABLE_GLOBAL", WasmFeatures::MUTABLE_GLOBAL),
     ("REFERENCE_TYPES", WasmFeatures::REFERENCE_TYPES),
     ("MULTI_VALUE", WasmFeatures::MULTI_VALUE),
@@ -120,4 +126,6 @@ pub(crate) const NAMES: [(&str, WasmFeatures); 23] = [
     ("ATOMIC_OPERATORS", WasmFeatures::ATOMIC_OPERATORS),
     ("LEGACY_EXCEPTIONS", WasmFeatures::LEGACY_EXCEPTIONS),
     ("CRATE_LIMITS", WasmFeatures::CRATE_LIMITS),
+    ("WIDE_ARITHMETIC", WasmFeatures::WIDE_ARITHMETIC),
+    ("MEMORY_CONTROL", WasmFeatures::MEMORY_CONTROL),
 ];
