@@ -93,7 +93,7 @@
    Left out. These are refused under all features:
    - components;
    - the operators of stack switching; continuation types are validated;
-   - of custom descriptors, ref.get_desc and the casts and branches by descriptors;
+   - of custom descriptors, ref.get_desc and the branches by descriptors;
    - of shared-everything threads, the atomic accesses to globals, tables, structures and arrays;
    - the operators of wide arithmetic: i64.add128, i64.sub128, i64.mul_wide_s and i64.mul_wide_u;
    - memory.discard. These are refused without a feature of their own, which RUTHVELKA_STANDARD
@@ -101,7 +101,8 @@
    - the operators on vectors other than v128.const, without RUTHVELKA_VECTOR_OPERATORS;
    - the atomic operators on memories and atomic.fence, without RUTHVELKA_ATOMIC_OPERATORS;
    - try, catch, catch_all, rethrow and delegate, the operators of legacy exceptions, without
-     RUTHVELKA_LEGACY_EXCEPTIONS.
+     RUTHVELKA_LEGACY_EXCEPTIONS;
+   - the casts by descriptors, ref.cast_desc_eq, without RUTHVELKA_DESCRIPTOR_OPERATORS.
 
    Trust. Besides what stands under "Handles", the library trusts its caller for what C can't test:
    that each pointer is of as many items as its count says, that what a call writes overlaps
@@ -160,11 +161,14 @@ extern "C" {
     /* try, catch, catch_all, rethrow and delegate; they need EXCEPTIONS too */
 #define RUTHVELKA_CRATE_LIMITS (UINT64_C(1) << 22)
     /* no proposal: the limits of the Rust crate's readers; see "Gates" */
+#define RUTHVELKA_DESCRIPTOR_OPERATORS (UINT64_C(1) << 25)
+    /* casts by descriptors; they need CUSTOM_DESCRIPTORS too */
 /* All but SHARED_EVERYTHING_THREADS, CUSTOM_PAGE_SIZES, CUSTOM_DESCRIPTORS, STACK_SWITCHING,
-   COMPONENT_MODEL, VECTOR_OPERATORS, ATOMIC_OPERATORS and LEGACY_EXCEPTIONS; and without
-   CRATE_LIMITS. That is the Core Specification 3.0, but for two things: the operators on vectors
-   other than v128.const are missing, which RUTHVELKA_VECTOR_OPERATORS adds; and RUTHVELKA_THREADS
-   is on, so memories may be shared, which the specification has not. */
+   COMPONENT_MODEL, VECTOR_OPERATORS, ATOMIC_OPERATORS, LEGACY_EXCEPTIONS and
+   DESCRIPTOR_OPERATORS; and without CRATE_LIMITS. That is the Core Specification 3.0, but for two
+   things: the operators on vectors other than v128.const are missing, which
+   RUTHVELKA_VECTOR_OPERATORS adds; and RUTHVELKA_THREADS is on, so memories may be shared, which
+   the specification has not. */
 #define RUTHVELKA_STANDARD UINT64_C(32703)
 
 /* ruthvelka_version: the version of the library that is linked, as RUTHVELKA_VERSION is that of

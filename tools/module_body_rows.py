@@ -469,6 +469,8 @@ def numbers():
         missing = 'vector_operators' if ', fd ' in title else 'atomic_operators' if ', fe ' in title else 'nothing'
         if 'first exceptions' in title:
             missing = 'legacy_exceptions'
+        if 'by a descriptor' in title:
+            missing = 'descriptor_operators'
         case(title, with_body(b'\0' + bytes.fromhex(digits) + b'\x0b', mems=['1']), wanted='refused; missing %s; ' % missing + IN_BODY, own=True)
 
 

@@ -310,6 +310,8 @@ class Scan:
             self.need("gc", "reference_types")
         if name in ("ref.test", "ref.cast", "br_on_cast", "br_on_cast_fail"):
             self.need("function_references")
+        if name in ("ref.cast_desc_eq", "ref.cast_desc_eq_null"):
+            self.need("function_references", "custom_descriptors")
         if 0xC0 <= code <= 0xC4:
             self.need("sign_extension")
         if is_constant and re.fullmatch(r"i\d\d\.(add|sub|mul)", name):

@@ -249,6 +249,8 @@ define(b"\xfb", """
 28 ref.i31
 29 i31.get_s
 30 i31.get_u
+35 ref.cast_desc_eq ht
+36 ref.cast_desc_eq_null ht
 """)
 OPERATORS["v128.const"] = (b"\xfd\x0c", ("v128",))
 CATCHES = {"catch": 0, "catch_ref": 1, "catch_all": 2, "catch_all_ref": 3}

@@ -4,7 +4,7 @@
 #include <stdio.h>
 #include <string.h>
 
-#define ALL ((UINT64_C(1) << 22) - 1)
+#define ALL (((UINT64_C(1) << 22) - 1) | RUTHVELKA_DESCRIPTOR_OPERATORS)
 static long wrong;
 
 /* Validates a module with a memory and a function whose body is `unreachable`, these bytes, `unreachable` and `end`. The bytes begin at byte 29. */

@@ -52,6 +52,8 @@ const (
 	LegacyExceptions WasmFeatures = 1 << 21
 	// CrateLimits: no proposal: the limits of the Rust crate's readers; see "Gates".
 	CrateLimits WasmFeatures = 1 << 22
+	// DescriptorOperators: casts by descriptors; they need CUSTOM_DESCRIPTORS too.
+	DescriptorOperators WasmFeatures = 1 << 25
 )
 
 const (
@@ -92,7 +94,8 @@ const (
 		ComponentModel |
 		VectorOperators |
 		AtomicOperators |
-		LegacyExceptions
+		LegacyExceptions |
+		DescriptorOperators
 )
 
 var names = map[string]WasmFeatures{
@@ -119,4 +122,5 @@ var names = map[string]WasmFeatures{
 	"ATOMIC_OPERATORS":          AtomicOperators,
 	"LEGACY_EXCEPTIONS":         LegacyExceptions,
 	"CRATE_LIMITS":              CrateLimits,
+	"DESCRIPTOR_OPERATORS":      DescriptorOperators,
 }

@@ -714,6 +714,7 @@ module _ {R : Type 0} (W : World R) (P : Primitives R) (a : AreSound W P) (again
     cast-steps : (op : Cast ℕ) → Stepped (instruction.cast op)
     cast-steps (references.ref_test q) ts us r rest s h = computes (instruction.cast (references.ref_test q)) ts us refl refl r rest s h
     cast-steps (references.ref_cast q) ts us r rest s h = computes (instruction.cast (references.ref_cast q)) ts us refl refl r rest s h
+    cast-steps (references.ref_cast_desc_eq q) ts us r rest s h = computes (instruction.cast (references.ref_cast_desc_eq q)) ts us refl refl r rest s h
     cast-steps (references.br_on_cast l p q) ts us r rest s h =
         let k = are_cast W B C l p q ts us r in
         as_typed ts us (vals k.casts.sent ++ val (reference k.casts.from) ∷ []) (vals k.casts.sent ++ val (reference k.casts.lacking) ∷ []) rest s

@@ -67,6 +67,9 @@ pub(crate) fn cast_arity<M: ModuleArity>(op: &CastOperator, resources: &M) -> Op
         | CastOperator::RefTestNullable { .. }
         | CastOperator::RefCastNonNull { .. }
         | CastOperator::RefCastNullable { .. } => Some((1, 1)),
+        CastOperator::RefCastDescEqNonNull { .. } | CastOperator::RefCastDescEqNullable { .. } => {
+            Some((2, 1))
+        }
         CastOperator::BrOnCast { relative_depth, .. }
         | CastOperator::BrOnCastFail { relative_depth, .. } => {
             match kept_count(resources, relative_depth) {

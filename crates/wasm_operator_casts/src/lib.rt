@@ -4,6 +4,7 @@
 mod branches;
 mod casts;
 mod conversions;
+mod descriptors;
 mod sends;
 mod steps;
 mod tops;
@@ -11,6 +12,7 @@ mod tops;
 pub use branches::{br_on_cast, br_on_cast_fail};
 pub use casts::{ref_cast, ref_test};
 pub use conversions::{any_convert_extern, extern_convert_any, i31_get, ref_i31, ref_i31_shared};
+pub use descriptors::ref_cast_desc_eq;
 pub use steps::{step_cast, step_conversion};
 
 // Casts stand on the other operators on references, so who steps through casts finds these here.

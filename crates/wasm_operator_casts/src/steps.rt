@@ -13,6 +13,7 @@ use crate::casts::{ref_cast, ref_test};
 use crate::conversions::{
     any_convert_extern, extern_convert_any, i31_get, ref_i31, ref_i31_shared,
 };
+use crate::descriptors::ref_cast_desc_eq;
 use std::alloc::Allocator;
 use wasm_operator_references::operator_checks::OperatorError;
 use wasm_operator_references::operator_stacks::Stacks;
@@ -41,6 +42,12 @@ pub fn step_cast<A: Allocator, T: WasmModuleResources>(
         CastOperator::RefTestNullable { hty } => ref_test(stacks, resources, true, hty),
         CastOperator::RefCastNonNull { hty } => ref_cast(stacks, resources, false, hty),
         CastOperator::RefCastNullable { hty } => ref_cast(stacks, resources, true, hty),
+        CastOperator::RefCastDescEqNonNull { hty } => {
+            ref_cast_desc_eq(stacks, resources, false, hty)
+        }
+        CastOperator::RefCastDescEqNullable { hty } => {
+            ref_cast_desc_eq(stacks, resources, true, hty)
+        }
         CastOperator::BrOnCast {
             relative_depth,
             from_ref_type,

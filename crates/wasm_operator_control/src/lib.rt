@@ -60,14 +60,16 @@ pub mod validator_resources {
 pub mod operator_checks {
     pub use wasm_operator_numbers::operator_checks::{
         OperatorError, OperatorFault, OperatorRule, Takes, ValTypes, address, check_type,
-        check_types, exchange_types, halt, has, has_known, look, look_many, match_all, matches,
-        plain, reaches,
+        check_types, exact_or_null, exchange_types, halt, has, has_known, look, look_many,
+        match_all, matches, nullable, plain, reaches,
     };
 }
 
 /// Passed on from `wasm_readers_types`.
 pub mod readers_types {
-    pub use wasm_readers_types::{AbstractHeapType, HeapType, RefType, UnpackedIndex, ValType};
+    pub use wasm_readers_types::{
+        AbstractHeapType, HeapType, PackedIndex, RefType, UnpackedIndex, ValType,
+    };
 }
 
 /// Passed on from `wasm_readers_errors`.

@@ -32,8 +32,8 @@ pub mod operator_stacks {
 pub mod operator_checks {
     pub use wasm_operator_checks::{
         OperatorError, OperatorFault, OperatorRule, Takes, ValTypes, address, check_type,
-        check_types, exchange_types, halt, has, has_known, look, look_many, match_all, matches,
-        plain, plain_with, reaches,
+        check_types, exact_or_null, exchange_types, halt, has, has_known, look, look_many,
+        match_all, matches, nullable, plain, plain_with, reaches,
     };
 }
 

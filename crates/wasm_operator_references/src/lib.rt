@@ -37,15 +37,15 @@ pub mod validator_resources {
 /// Passed on from `wasm_operator_checks`.
 pub mod operator_checks {
     pub use wasm_operator_control::operator_checks::{
-        OperatorError, OperatorFault, OperatorRule, Takes, ValTypes, check_type, check_types, has,
-        plain,
+        OperatorError, OperatorFault, OperatorRule, Takes, ValTypes, check_type, check_types,
+        exact_or_null, has, nullable, plain,
     };
 }
 
 /// Passed on from `wasm_readers_types`.
 pub mod readers_types {
     pub use wasm_operator_control::readers_types::{
-        AbstractHeapType, HeapType, RefType, UnpackedIndex, ValType,
+        AbstractHeapType, HeapType, PackedIndex, RefType, UnpackedIndex, ValType,
     };
 }
 

@@ -3,10 +3,12 @@ use Rattle.std.proofs.Common.{◌≡◌, refl, ℕ, ◌≤◌, ◌<◌, Bool, tr
 use Rattle.std.specs.Prelude.{Option, Some, None}
 use Rattle.std.proofs.lemmas.Bool.{le-leb, lt-leb}
 use Rattle.wasm_spec_rules.specs.WasmSpec.MatchingTests.{World}
+use Rattle.wasm_spec_rules.specs.WasmSpec.Syntax.{Ref, reference}
 use Rattle.wasm_spec_rules.specs.Attempts.{◌>>=◌, guard}
 use Rattle.wasm_spec_rules.specs.WasmSpec.CrateLimits.{most_clauses}
 use Rattle.wasm_operators.specs.Control.{try_table}
-use Rattle.wasm_operators.specs.Instructions.{Instruction, control, vector, atomic}
+use Rattle.wasm_operators.specs.References.{ref_cast_desc_eq}
+use Rattle.wasm_operators.specs.Instructions.{Instruction, control, cast, vector, atomic}
 use Rattle.wasm_operator_steps.specs.Bodies.{Surroundings}
 use Rattle.wasm_operator_steps.specs.Machine.{State}
 use Rattle.wasm_operators.specs.WasmOperatorsAtomic.WasmOperatorsVector.Forms as vectors
@@ -14,10 +16,10 @@ use Rattle.wasm_operators.specs.WasmOperatorsAtomic.Forms as atomics
 use Rattle.wasm_operators.specs.WasmOperatorsAtomic.WasmOperatorsVector.declared.forms.Form.{Form}
 use Rattle.wasm_operators.specs.declared.immediates.ImmediateValues.{ImmediateValues}
 use Rattle.wasm_operator_steps.specs.Forms.{types_taken, types_given, memarg_of}
-use Rattle.wasm_operator_steps.specs.Actions.{Needed, Check, has, Action, need, take, give, enter, these, joined, simd, threads, vector_operators, atomic_operators, exceptions, few_clauses}
+use Rattle.wasm_operator_steps.specs.Actions.{Needed, Check, has, Action, need, take, give, enter, these, joined, top, descriptor_for, custom_descriptors, descriptor_operators, simd, threads, vector_operators, atomic_operators, exceptions, few_clauses}
 use Rattle.wasm_operator_steps.specs.Meanings.{is_on, holds, run}
 use Rattle.wasm_operator_steps.specs.Machine.{try_table_kind}
-use Rattle.wasm_operator_steps.specs.Shapes.{shape_of, form_checks, address_of, nothing, block_checks, catch_checks}
+use Rattle.wasm_operator_steps.specs.Shapes.{shape_of, form_checks, address_of, nothing, one, cast_checks, block_checks, catch_checks}
 use Rattle.wasm_operator_steps.specs.Steps.{checked, actions_of, is_open, step_in}
 use Rattle.wasm_operator_steps.specs.Laws.{OperatorsAreOptIn, ClausesAreLimited}
 
@@ -40,12 +42,18 @@ module _ {R : Type 0} (W : World R) (B : Surroundings R) where
 abbrev behind : Form → ImmediateValues → List Action
 behind f values = checked (form_checks f values) (take (joined (address_of (memarg_of values)) (these (types_taken f))) ∷ give (these (types_given f)) ∷ [])
 
+-- what a cast by descriptors does behind them
+abbrev by_descriptor : Ref ℕ → List Action
+by_descriptor q = checked (cast_checks q) (take (joined (top q) (descriptor_for q.heap)) ∷ give (one (reference q)) ∷ [])
+
 pub operators_are_opt_in : {R : Type 0} → OperatorsAreOptIn R
 operators_are_opt_in W B = record {
   needs_vector_operators = λ e op values. step_by W B (vector op values) (first W B vector_operators (need (has simd) ∷ behind (vectors.form_of op) values) e);
   needs_simd = λ e op values. step_by W B (vector op values) (second W B (has vector_operators) simd (behind (vectors.form_of op) values) e);
   needs_atomic_operators = λ e op values. step_by W B (atomic op values) (first W B atomic_operators (need (has threads) ∷ behind (atomics.form_of op) values) e);
   needs_threads = λ e op values. step_by W B (atomic op values) (second W B (has atomic_operators) threads (behind (atomics.form_of op) values) e);
+  needs_descriptor_operators = λ e q. step_by W B (cast (ref_cast_desc_eq q)) (first W B descriptor_operators (need (has custom_descriptors) ∷ by_descriptor q) e);
+  needs_custom_descriptors = λ e q. step_by W B (cast (ref_cast_desc_eq q)) (second W B (has descriptor_operators) custom_descriptors (by_descriptor q) e);
 }
 
 -- a number against a limit that is asked for, that isn't, and that the number keeps

@@ -1,7 +1,7 @@
 -- The small language that instructions are told in: types by what names them, checks, and actions on the two stacks. It is over
 -- type indices alone, and gets its meaning over identities elsewhere.
 use Rattle.std.specs.Prelude.{ℕ, Bool, List}
-use Rattle.wasm_spec_rules.specs.WasmSpec.Syntax.{AbstractHeap, Ref, Val}
+use Rattle.wasm_spec_rules.specs.WasmSpec.Syntax.{AbstractHeap, Heap, Ref, Val}
 use Rattle.wasm_operators.specs.Control.{Block}
 use Rattle.wasm_operators.specs.WasmOperatorsPlain.declared.memories.MemoryOperator.{MemoryOperator}
 use Rattle.wasm_operators.specs.WasmOperatorsPlain.declared.memories.MemArg.{MemArg}
@@ -17,7 +17,7 @@ pub data Signed : Type 0 where
 -- written types; the parameters or results of a signature; what a label takes, and what the body returns; the type of a local or a
 -- global; a reference to a function, and to a new value of a type; the unpacked types of all fields of a structure, of one of them, and
 -- of an array's elements; what addresses a table or a memory, and the lesser of two; a table's elements, and a segment's; the greatest
--- type, with null, of a reference type's hierarchy; the descriptor, or null, of exactly a type; and lists made of others: so many times, without the last, the last alone, and one after another.
+-- type, with null, of a reference type's hierarchy; the descriptor, or null, of exactly a type; that, or null, of what a heap type names, exactly where it does so; and lists made of others: so many times, without the last, the last alone, and one after another.
 pub data OperandTypes : Type 0 where
   these : List (Val ℕ) → OperandTypes
   params results : Signed → OperandTypes
@@ -28,13 +28,14 @@ pub data OperandTypes : Type 0 where
   table_address memory_address table_element segment : ℕ → OperandTypes
   lesser_table_address lesser_memory_address : ℕ → ℕ → OperandTypes
   top : Ref ℕ → OperandTypes
+  descriptor_for : Heap ℕ → OperandTypes
   repeated : ℕ → OperandTypes → OperandTypes
   front last : OperandTypes → OperandTypes
   joined : OperandTypes → OperandTypes → OperandTypes
 
 -- the proposals that an instruction may need, and no more than so many catch clauses where limits are asked for
 pub data Needed : Type 0 where
-  multi_value reference_types bulk_memory exceptions function_references gc shared_everything_threads custom_descriptors simd threads vector_operators atomic_operators legacy_exceptions : Needed
+  multi_value reference_types bulk_memory exceptions function_references gc shared_everything_threads custom_descriptors simd threads vector_operators atomic_operators legacy_exceptions descriptor_operators : Needed
   few_clauses : ℕ → Needed
 
 -- Checks:

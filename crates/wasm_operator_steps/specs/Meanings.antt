@@ -19,7 +19,7 @@ use Rattle.wasm_operator_steps.specs.Matching.{matches_vals, matches_storage}
 use Rattle.wasm_operator_steps.specs.Bodies.{Surroundings}
 use Rattle.wasm_operator_steps.specs.Machine.{Operand, bottom_reference, open_reference, known, Kind, loop_kind, if_kind, else_kind, is_if, may_catch, Frame, State, delegates, rethrows, push_operand, push_vals, pop_any, pop_reference, non_null, same_number, chosen, become_unreachable, push_frame, set_local, pop_vals}
 use Rattle.wasm_operator_steps.specs.Forms.{suits_form, memarg_of, reaches_memory}
-use Rattle.wasm_operator_steps.specs.Actions.{Signed, of_type, of_function, of_tag, OperandTypes, these, params, results, label, returned, local, global, function_reference, new_reference, fields, element, field, table_address, memory_address, table_element, segment, lesser_table_address, lesser_memory_address, top, descriptor_of, repeated, front, last, joined, Needed, multi_value, reference_types, bulk_memory, exceptions, function_references, gc, shared_everything_threads, custom_descriptors, legacy_exceptions, few_clauses, atomic_operators, vector_operators, threads, simd, Check, has, allows, global_is_mutable, local_is_set, function_is_referenced, is_exception, each_matches, may_be_cast, can_be_tested, is_aligned, suits, fields_have_defaults, has_no_descriptor, field_is_mutable, field_is_packed, element_is_mutable, element_has_default, element_is_number, element_is_packed, element_is_storable, data_is_there, segment_is_there, reaches_global, reaches_table, reaches_type, reaches_function, Action, need, refuse, take, give, take_any, take_reference, take_comparable, make_non_null, choose, stop, turn_to_else, leave, take_below, convert, enter, turn_to_catch, find_outside, find_caught, set, branch_on_null, branch_to_one_of}
+use Rattle.wasm_operator_steps.specs.Actions.{Signed, of_type, of_function, of_tag, OperandTypes, these, params, results, label, returned, local, global, function_reference, new_reference, fields, element, field, table_address, memory_address, table_element, segment, lesser_table_address, lesser_memory_address, top, descriptor_of, descriptor_for, repeated, front, last, joined, Needed, multi_value, reference_types, bulk_memory, exceptions, function_references, gc, shared_everything_threads, custom_descriptors, legacy_exceptions, descriptor_operators, few_clauses, atomic_operators, vector_operators, threads, simd, Check, has, allows, global_is_mutable, local_is_set, function_is_referenced, is_exception, each_matches, may_be_cast, can_be_tested, is_aligned, suits, fields_have_defaults, has_no_descriptor, field_is_mutable, field_is_packed, element_is_mutable, element_has_default, element_is_number, element_is_packed, element_is_storable, data_is_there, segment_is_there, reaches_global, reaches_table, reaches_type, reaches_function, Action, need, refuse, take, give, take_any, take_reference, take_comparable, make_non_null, choose, stop, turn_to_else, leave, take_below, convert, enter, turn_to_catch, find_outside, find_caught, set, branch_on_null, branch_to_one_of}
 
 module _ {R : Type 0} where
   abbrev pub ref_to : Bool → Heap R → Val R
@@ -84,6 +84,7 @@ is_on F threads = F.threads
 is_on F vector_operators = F.vector_operators
 is_on F atomic_operators = F.atomic_operators
 is_on F legacy_exceptions = F.legacy_exceptions
+is_on F descriptor_operators = F.descriptor_operators
 is_on F (few_clauses n) = is_within F most_clauses n
 
 -- an alignment no greater than the bytes accessed, and an offset that an address has room for
@@ -152,6 +153,12 @@ module _ {R : Type 0} (W : World R) (B : Surroundings R) where
   abbrev pub descriptor_at : ℕ → Option R
   descriptor_at n = sub_at n >>= λ d. d.descriptor
 
+  -- that of the type that a heap type names, exactly where it does so; none of an abstract heap type
+  abbrev pub descriptor_heap : Heap ℕ → Option (Heap R)
+  descriptor_heap (abstract_heap s k) = None
+  descriptor_heap (concrete n) = option_map concrete (descriptor_at n)
+  descriptor_heap (exact n) = option_map exact (descriptor_at n)
+
   abbrev pub top_heap : Heap ℕ → Option (Heap R)
   top_heap h = resolve_heap B.context.types h >>= top_of_heap W.declared
 
@@ -182,6 +189,7 @@ module _ {R : Type 0} (W : World R) (B : Surroundings R) where
   types_at s (lesser_memory_address m n) = one (option_map address (both (memory_is_64 m) (memory_is_64 n)))
   types_at s (top r) = one (option_map (ref_to true) (top_heap r.heap))
   types_at s (descriptor_of n) = one (option_map (λ a. ref_to true (exact a)) (descriptor_at n))
+  types_at s (descriptor_for h) = one (option_map (ref_to true) (descriptor_heap h))
   types_at s (repeated n t) = option_map (copies n) (types_at s t)
   types_at s (front t) = option_map front_of (types_at s t)
   types_at s (last t) = one (types_at s t >>= last_of)

@@ -44,7 +44,7 @@ use Rattle.wasm_operators.specs.WasmOperatorsAtomic.declared.operators.AtomicOpe
 use Rattle.wasm_operators.specs.WasmOperatorsAtomic.WasmOperatorsVector.declared.forms.Form.{Form}
 use Rattle.wasm_operators.specs.declared.immediates.ImmediateValues.{ImmediateValues}
 use Rattle.wasm_operator_steps.specs.Forms.{types_taken, types_given, memarg_of}
-use Rattle.wasm_operator_steps.specs.Actions.{of_type, of_function, of_tag, OperandTypes, these, params, results, label, returned, local, global, function_reference, new_reference, fields, element, field, table_address, memory_address, table_element, segment, lesser_table_address, lesser_memory_address, top, descriptor_of, repeated, front, last, joined, Needed, multi_value, reference_types, bulk_memory, exceptions, function_references, gc, shared_everything_threads, custom_descriptors, legacy_exceptions, few_clauses, Check, has, allows, global_is_mutable, local_is_set, function_is_referenced, is_exception, each_matches, may_be_cast, can_be_tested, is_aligned, fields_have_defaults, has_no_descriptor, field_is_mutable, field_is_packed, element_is_mutable, element_has_default, element_is_number, element_is_packed, element_is_storable, data_is_there, segment_is_there, reaches_global, reaches_table, reaches_type, reaches_function, suits, simd, threads, vector_operators, atomic_operators}
+use Rattle.wasm_operator_steps.specs.Actions.{of_type, of_function, of_tag, OperandTypes, these, params, results, label, returned, local, global, function_reference, new_reference, fields, element, field, table_address, memory_address, table_element, segment, lesser_table_address, lesser_memory_address, top, descriptor_of, descriptor_for, repeated, front, last, joined, Needed, multi_value, reference_types, bulk_memory, exceptions, function_references, gc, shared_everything_threads, custom_descriptors, legacy_exceptions, descriptor_operators, few_clauses, Check, has, allows, global_is_mutable, local_is_set, function_is_referenced, is_exception, each_matches, may_be_cast, can_be_tested, is_aligned, fields_have_defaults, has_no_descriptor, field_is_mutable, field_is_packed, element_is_mutable, element_has_default, element_is_number, element_is_packed, element_is_storable, data_is_there, segment_is_there, reaches_global, reaches_table, reaches_type, reaches_function, suits, simd, threads, vector_operators, atomic_operators}
 
 -- Shapes: takes some operands and gives others; takes some, and what follows isn't reached; takes some and enters a block; `end`; `else`;
 -- takes any operand; chooses one of two; tests a reference for null; asserts that it isn't null; branches where it is null; branches
@@ -263,11 +263,17 @@ branch_checks l r q sent = has gc ∷ allows (reference r) ∷ allows (reference
 abbrev pub kept : ℕ → Val ℕ → OperandTypes
 kept l v = joined (front (label l)) (one v)
 
+-- The casts by descriptors of the proposal for custom descriptors need two features. Above the reference stands a descriptor of the type
+-- that it is cast to.
+abbrev pub descriptor_checks : List Check → List Check
+descriptor_checks cs = has descriptor_operators ∷ has custom_descriptors ∷ cs
+
 abbrev pub cast_shape : Cast ℕ → Shape
 cast_shape (references.ref_test q) = plain (cast_checks q) (top q) (one i32)
 cast_shape (references.ref_cast q) = plain (cast_checks q) (top q) (one (reference q))
 cast_shape (references.br_on_cast l r q) = plain (branch_checks l r q (reference q)) (kept l (reference r)) (kept l (difference r q))
 cast_shape (references.br_on_cast_fail l r q) = plain (branch_checks l r q (difference r q)) (kept l (reference r)) (kept l (reference q))
+cast_shape (references.ref_cast_desc_eq q) = plain (descriptor_checks (cast_checks q)) (joined (top q) (descriptor_for q.heap)) (one (reference q))
 
 -- External and unboxed references: each type that is given is one that the features allow
 abbrev pub small_integer : Bool → Val ℕ

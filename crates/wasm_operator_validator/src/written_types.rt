@@ -88,7 +88,9 @@ fn is_written_cast(op: CastOperator) -> bool
         CastOperator::RefTestNonNull { hty }
         | CastOperator::RefTestNullable { hty }
         | CastOperator::RefCastNonNull { hty }
-        | CastOperator::RefCastNullable { hty } => is_written_heap(hty),
+        | CastOperator::RefCastNullable { hty }
+        | CastOperator::RefCastDescEqNonNull { hty }
+        | CastOperator::RefCastDescEqNullable { hty } => is_written_heap(hty),
         CastOperator::BrOnCast {
             relative_depth: _,
             from_ref_type,

@@ -156,7 +156,9 @@ module _ {more : List ℕ} where
         (reads_if (n == 23) (reads_weaken (reads_map _ (heap-reads to bytes)))
         (reads_if (n == 24) (reads_weaken (reads_map _ (branch-reads bytes)))
         (reads_if (n == 25) (reads_weaken (reads_map _ (branch-reads bytes)))
-        reads_none)))))
+        (reads_if (n == 35) (reads_weaken (reads_map _ (heap-reads to bytes)))
+        (reads_if (n == 36) (reads_weaken (reads_map _ (heap-reads to bytes)))
+        reads_none)))))))
 
     aggregate-reads : (n : ℕ) (bytes : List ℕ) → Reads more 0 bytes (aggregate_from to n bytes) (aggregate_from to n (bytes ++ more))
     unfolding aggregate_from
@@ -165,7 +167,8 @@ module _ {more : List ℕ} where
         (reads_if (nat_lt n 20) (reads_map _ (array-reads n bytes))
         (reads_if (nat_lt n 26) (reads_map _ (cast-reads n bytes))
         (reads_if (nat_lt n 32) (reads_value _ (conversion_from n))
-        (reads_map _ (struct-reads n bytes)))))
+        (reads_if (nat_lt n 34) (reads_map _ (struct-reads n bytes))
+        (reads_map _ (cast-reads n bytes))))))
 
     bulk-reads : (n : ℕ) (bytes : List ℕ) → Reads more 0 bytes (bulk_from to n bytes) (bulk_from to n (bytes ++ more))
     unfolding bulk_from

@@ -119,7 +119,9 @@ module _ {R S : Type 0} (f : R → S) (to : ℕ → R) where
       (renames_if (n == 23) (renames_map _ _ (heap-renames f to bytes) (λ x. refl))
       (renames_if (n == 24) (renames_map _ _ (branch-renames bytes) (λ x. refl))
       (renames_if (n == 25) (renames_map _ _ (branch-renames bytes) (λ x. refl))
-      renames_none)))))
+      (renames_if (n == 35) (renames_map _ _ (heap-renames f to bytes) (λ x. refl))
+      (renames_if (n == 36) (renames_map _ _ (heap-renames f to bytes) (λ x. refl))
+      renames_none)))))))
 
   aggregate-renames : (n : ℕ) (bytes : List ℕ) → Renames (map_instruction f) (aggregate_from to n bytes) (aggregate_from then_renamed n bytes)
   unfolding aggregate_from
@@ -128,7 +130,8 @@ module _ {R S : Type 0} (f : R → S) (to : ℕ → R) where
       (renames_if (nat_lt n 20) (renames_same_map (array_from n bytes) _ _ (λ x. refl))
       (renames_if (nat_lt n 26) (renames_map _ _ (cast-renames n bytes) (λ x. refl))
       (renames_if (nat_lt n 32) (renames_same_map (conversion_from n) _ _ (λ x. refl))
-      (renames_same_map (struct_from n bytes) _ _ (λ x. refl)))))
+      (renames_if (nat_lt n 34) (renames_same_map (struct_from n bytes) _ _ (λ x. refl))
+      (renames_map _ _ (cast-renames n bytes) (λ x. refl))))))
 
   bulk-renames : (n : ℕ) (bytes : List ℕ) → Renames (map_instruction f) (bulk_from to n bytes) (bulk_from then_renamed n bytes)
   unfolding bulk_from

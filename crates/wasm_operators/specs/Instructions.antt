@@ -84,7 +84,8 @@ module _ {R : Type 0} (to : ℕ → R) where
       else (if nat_lt n 20 then of_family array (array_from n bytes)
       else (if nat_lt n 26 then of_family cast (cast_from to n bytes)
       else (if nat_lt n 32 then with_nothing conversion bytes (conversion_from n)
-      else of_family structure (struct_from n bytes))))
+      else (if nat_lt n 34 then of_family structure (struct_from n bytes)
+      else of_family cast (cast_from to n bytes)))))
 
   -- behind the prefix fc
   unfoldable pub bulk_from : ℕ → List ℕ → Option (Instruction R × List ℕ)

@@ -12,10 +12,12 @@ pub data Reference (R : Type 0) : Type 0 where
   ref_is_null ref_eq ref_as_non_null : Reference R
   ref_func br_on_null br_on_non_null : ℕ → Reference R
 
--- Tests and casts to a type; and branches on a cast, with a label, the type of the operand and the type that it is cast to.
+-- Tests and casts to a type; and branches on a cast, with a label, the type of the operand and the type that it is cast to. Casts by
+-- descriptors are told by that of the type that they are to, by the proposal for custom descriptors.
 pub data Cast (R : Type 0) : Type 0 where
   ref_test ref_cast : Ref R → Cast R
   br_on_cast br_on_cast_fail : ℕ → Ref R → Ref R → Cast R
+  ref_cast_desc_eq : Ref R → Cast R
 
 -- a reference type
 abbrev pub reference_to : {R : Type 0} → Bool → Heap R → Ref R
@@ -73,4 +75,6 @@ module _ {R : Type 0} (to : ℕ → R) where
       else (if n == 23 then one_type ref_cast true bytes
       else (if n == 24 then cast_branch br_on_cast bytes
       else (if n == 25 then cast_branch br_on_cast_fail bytes
-      else None)))))
+      else (if n == 35 then one_type ref_cast_desc_eq false bytes
+      else (if n == 36 then one_type ref_cast_desc_eq true bytes
+      else None)))))))

@@ -25,3 +25,5 @@ cast_of (cast.RefCastNonNull h) = syntax.ref_cast (reference_to false (heap_of h
 cast_of (cast.RefCastNullable h) = syntax.ref_cast (reference_to true (heap_of h))
 cast_of (cast.BrOnCast l a b) = syntax.br_on_cast l (ref_of a) (ref_of b)
 cast_of (cast.BrOnCastFail l a b) = syntax.br_on_cast_fail l (ref_of a) (ref_of b)
+cast_of (cast.RefCastDescEqNonNull h) = syntax.ref_cast_desc_eq (reference_to false (heap_of h))
+cast_of (cast.RefCastDescEqNullable h) = syntax.ref_cast_desc_eq (reference_to true (heap_of h))

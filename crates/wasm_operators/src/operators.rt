@@ -79,8 +79,10 @@ fn read_aggregate<'a>(
             Some(op) => Ok(Operator::Conversion(op)),
             None => Err(unknown_prefixed_opcode(0xfb, code, offset)),
         }
-    } else {
+    } else if code < 34 {
         Ok(Operator::Struct(read_struct(reader, code, offset)?))
+    } else {
+        Ok(Operator::Cast(read_cast(reader, code, offset)?))
     }
 }
 

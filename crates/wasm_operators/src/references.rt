@@ -29,7 +29,8 @@ pub enum ReferenceOperator {
 }
 
 /// Tests and casts of references (Core Specification 3.0, Binary Format, Instructions, Reference
-/// Instructions), with the branches on casts.
+/// Instructions), with the branches on casts; and casts by descriptors (the proposal for custom
+/// descriptors), for which validation asks for `DESCRIPTOR_OPERATORS` and `CUSTOM_DESCRIPTORS`.
 #[derive(Clone, Copy, Debug)]
 pub enum CastOperator {
     RefTestNonNull {
@@ -53,6 +54,12 @@ pub enum CastOperator {
         relative_depth: u32,
         from_ref_type: RefType,
         to_ref_type: RefType,
+    },
+    RefCastDescEqNonNull {
+        hty: HeapType,
+    },
+    RefCastDescEqNullable {
+        hty: HeapType,
     },
 }
 
@@ -190,6 +197,12 @@ pub(crate) fn read_cast(
                 to_ref_type,
             })
         }
+        35 => Ok(CastOperator::RefCastDescEqNonNull {
+            hty: read_heap_type(reader)?,
+        }),
+        36 => Ok(CastOperator::RefCastDescEqNullable {
+            hty: read_heap_type(reader)?,
+        }),
         _ => Err(unknown_prefixed_opcode(0xfb, code, offset)),
     }
 }

@@ -173,6 +173,12 @@ pub enum OperatorRule {
     RethrowLabel,
     /// With `CRATE_LIMITS` a `try_table` has at most 10,000 catch clauses.
     CatchCount,
+    /// The operator of this number behind the prefix `0xfb` needs `DESCRIPTOR_OPERATORS`.
+    DescriptorOperators,
+    /// A cast by descriptors is to a type without one.
+    CastToUndescribed,
+    /// A cast by descriptors is to an abstract heap type.
+    CastToAbstract,
 }
 
 /// The items of a module, and of a function, that an operator names by an index.
@@ -224,6 +230,7 @@ impl OperatorRule {
             OperatorRule::AtomicOperators => Some(WasmFeatures::ATOMIC_OPERATORS),
             OperatorRule::Threads => Some(WasmFeatures::THREADS),
             OperatorRule::LegacyExceptions => Some(WasmFeatures::LEGACY_EXCEPTIONS),
+            OperatorRule::DescriptorOperators => Some(WasmFeatures::DESCRIPTOR_OPERATORS),
             _ => None,
         }
     }
@@ -323,7 +330,9 @@ impl OperatorRule {
             OperatorRule::VectorOperators => "vector operators are not served",
             OperatorRule::AtomicOperators => "atomic operators are not served",
             OperatorRule::Threads => "threads support is not enabled",
-            OperatorRule::LegacyExceptions => "illegal opcode",
+            OperatorRule::LegacyExceptions | OperatorRule::DescriptorOperators => "illegal opcode",
+            OperatorRule::CastToUndescribed => "cast target must have descriptor",
+            OperatorRule::CastToAbstract => "unexpected heap type",
             OperatorRule::CatchOutsideTry => "catch found outside of a `try` block",
             OperatorRule::CatchAllOutsideTry => "catch_all found outside of a `try` block",
             OperatorRule::DelegateOutsideTry => "delegate found outside of a `try` block",
@@ -353,6 +362,7 @@ impl OperatorRule {
         match self {
             OperatorRule::UnsetLocal => write!(f, "{text}: {number}"),
             OperatorRule::LegacyExceptions => write!(f, "{text} 0x{number:02x}"),
+            OperatorRule::DescriptorOperators => write!(f, "{text} 0xfb {number}"),
             OperatorRule::NotAFunction | OperatorRule::NotAStruct | OperatorRule::NotAnArray => {
                 write!(f, "{text} at index {number}")
             }

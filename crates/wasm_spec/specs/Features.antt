@@ -25,6 +25,7 @@ pub record Features : Type 0 where
   pub vector_operators : Bool
   pub atomic_operators : Bool
   pub legacy_exceptions : Bool
+  pub descriptor_operators : Bool
   pub crate_limits : Bool
 
 -- whether equal types are one type: without these features no type can refer to another, and each written type is its own

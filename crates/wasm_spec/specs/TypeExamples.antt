@@ -32,6 +32,7 @@ features b = record {
   vector_operators = b;
   atomic_operators = b;
   legacy_exceptions = b;
+  descriptor_operators = b;
   crate_limits = false;
 }
 

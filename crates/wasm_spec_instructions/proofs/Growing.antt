@@ -5,7 +5,7 @@ use Rattle.wasm_operator_steps.specs.WasmSpecRules.WasmSpec.MatchingTests.{World
 use Rattle.wasm_operator_steps.specs.WasmSpecRules.Attempts.{◌>>=◌, passes, front_of, last_of, list_of}
 use Rattle.wasm_operator_steps.specs.Matching.{matches_vals}
 use Rattle.wasm_operator_steps.specs.Bodies.{Surroundings}
-use Rattle.wasm_operator_steps.specs.Actions.{OperandTypes, these, params, results, label, returned, local, global, function_reference, new_reference, fields, element, field, table_address, memory_address, table_element, segment, lesser_table_address, lesser_memory_address, top, descriptor_of, repeated, front, last, joined, Check, has, allows, global_is_mutable, local_is_set, function_is_referenced, is_exception, each_matches, may_be_cast, can_be_tested, is_aligned, suits, fields_have_defaults, has_no_descriptor, field_is_mutable, field_is_packed, element_is_mutable, element_has_default, element_is_number, element_is_packed, element_is_storable, data_is_there, segment_is_there, reaches_global, reaches_table, reaches_type, reaches_function}
+use Rattle.wasm_operator_steps.specs.Actions.{OperandTypes, these, params, results, label, returned, local, global, function_reference, new_reference, fields, element, field, table_address, memory_address, table_element, segment, lesser_table_address, lesser_memory_address, top, descriptor_of, descriptor_for, repeated, front, last, joined, Check, has, allows, global_is_mutable, local_is_set, function_is_referenced, is_exception, each_matches, may_be_cast, can_be_tested, is_aligned, suits, fields_have_defaults, has_no_descriptor, field_is_mutable, field_is_packed, element_is_mutable, element_has_default, element_is_number, element_is_packed, element_is_storable, data_is_there, segment_is_there, reaches_global, reaches_table, reaches_type, reaches_function}
 use Rattle.wasm_operator_steps.specs.Shapes.{Shape, shape_of}
 use Rattle.wasm_operator_steps.specs.Meanings.{copies}
 use Rattle.wasm_spec_instructions.specs.Code.{Opening, Handler, Code, done, simply, enclosing, choosing_between, handling, delegating_to, Handlers, and_then, checks_of, handler_checks, handler_operands, is_simple, IsProper, AreProper}
@@ -67,6 +67,7 @@ module _ {R : Type 0} (W : World R) (B : Surroundings R) where
     types-grow (lesser_memory_address m n) = itself-finds (types_in W B L r (lesser_memory_address m n))
     types-grow (top q) = itself-finds (types_in W B L r (top q))
     types-grow (descriptor_of n) = itself-finds (types_in W B L r (descriptor_of n))
+    types-grow (descriptor_for x) = itself-finds (types_in W B L r (descriptor_for x))
 
     each-grows : (t u : OperandTypes) → passes (λ vs. passes (matches_vals W vs) (types_in W B L r u)) (types_in W B L r t) ≡ true → passes (λ vs. passes (matches_vals W vs) (types_in W B M s u)) (types_in W B M s t) ≡ true
     unfolding Finds

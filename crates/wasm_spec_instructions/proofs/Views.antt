@@ -85,6 +85,7 @@ cast-simple (references.ref_test q) = refl
 cast-simple (references.ref_cast q) = refl
 cast-simple (references.br_on_cast l r q) = refl
 cast-simple (references.br_on_cast_fail l r q) = refl
+cast-simple (references.ref_cast_desc_eq q) = refl
 
 conversion-simple : (op : ConversionOperator) → is_simple (conversion_shape op) ≡ true
 conversion-simple AnyConvertExtern = refl

@@ -27,5 +27,6 @@ features_of flags = record {
   vector_operators = has_flag 524288 flags;
   atomic_operators = has_flag 1048576 flags;
   legacy_exceptions = has_flag 2097152 flags;
+  descriptor_operators = has_flag 33554432 flags;
   crate_limits = has_flag 4194304 flags;
 }

@@ -40,6 +40,7 @@ first_version = record {
   vector_operators = false;
   atomic_operators = false;
   legacy_exceptions = false;
+  descriptor_operators = false;
   crate_limits = false;
 }
 

@@ -83,6 +83,7 @@ for_cast (references.ref_test q) = tt
 for_cast (references.ref_cast q) = tt
 for_cast (references.br_on_cast l r q) = (tt, tt)
 for_cast (references.br_on_cast_fail l r q) = (tt, tt)
+for_cast (references.ref_cast_desc_eq q) = tt
 
 are_for : (i : Instruction ℕ) → AreFor (nesting i) (branches i)
 are_for (instruction.control op) = for_control op

@@ -343,7 +343,8 @@ module _ (F : Features) where
       (ends_if (nat_lt n 20) (ends_map _ (ends_reads (array-reads n bytes)))
       (ends_if (nat_lt n 26) (ends_map _ (ends_never (λ c. no)))
       (ends_if (nat_lt n 32) (ends_value _ (conversion_from n))
-      (ends_map _ (ends_reads (struct-reads n bytes))))))
+      (ends_if (nat_lt n 34) (ends_map _ (ends_reads (struct-reads n bytes)))
+      (ends_map _ (ends_never (λ c. no)))))))
 
   bulk-ends : (n : ℕ) (bytes : List ℕ) → Ends IsConstantOne bytes (bulk_from (λ n. n) n bytes)
   unfolding bulk_from
@@ -410,7 +411,8 @@ module _ (F : Features) where
         (cuts_if (nat_lt n 20) (cuts_map _ (cuts_any (array-cuts n bytes)))
         (cuts_if (nat_lt n 26) (cuts_map _ (cuts_never (λ c. no)))
         (cuts_if (nat_lt n 32) (cuts_value bytes _ (conversion_from n))
-        (cuts_map _ (cuts_any (struct-cuts n bytes))))))
+        (cuts_if (nat_lt n 34) (cuts_map _ (cuts_any (struct-cuts n bytes)))
+        (cuts_map _ (cuts_never (λ c. no)))))))
 
     bulk-cuts : (n : ℕ) (bytes : List ℕ) → Cuts IsConstantOne more (bulk_from (λ n. n) n bytes) (bulk_from (λ n. n) n (bytes ++ more))
     unfolding bulk_from

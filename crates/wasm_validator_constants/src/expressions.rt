@@ -19,15 +19,15 @@ use bitflags::Flags;
 use std::alloc::{AllocError, Allocator};
 use wasm_operator_validator::OperatorValidator;
 use wasm_operators::operators_plain::VariableOperator;
-use wasm_operators::{Operator, ReferenceOperator, read_operator};
+use wasm_operators::{CastOperator, Operator, ReferenceOperator, read_operator};
 use wasm_readers::BinaryReader;
 use wasm_readers::readers_errors::{Error, Fault, OperatorRule, Refusal, WasmFeatures};
 use wasm_validator_references::NotesFunctions;
 use wasm_validator_resources::WasmModuleResources;
 
 /// The rule against an operator that no constant expression has, and its number. Without the feature
-/// that serves them, the operators on vectors, the atomic ones and those of legacy exceptions are
-/// refused as they are in a body.
+/// that serves them, the operators on vectors, the atomic ones, those of legacy exceptions and casts
+/// by descriptors are refused as they are in a body.
 fn rule_against<'a>(features: WasmFeatures, op: &Operator<'a>) -> (OperatorRule, u32) {
     match *op {
         Operator::Vector(_, _) if !features.contains(WasmFeatures::VECTOR_OPERATORS) => {
@@ -38,6 +38,17 @@ fn rule_against<'a>(features: WasmFeatures, op: &Operator<'a>) -> (OperatorRule,
         }
         Operator::Legacy(op) if !features.contains(WasmFeatures::LEGACY_EXCEPTIONS) => {
             (OperatorRule::LegacyExceptions, op.opcode() as u32)
+        }
+        Operator::Cast(op) if !features.contains(WasmFeatures::DESCRIPTOR_OPERATORS) => {
+            match op {
+                CastOperator::RefCastDescEqNonNull { hty: _ } => {
+                    (OperatorRule::DescriptorOperators, 35)
+                }
+                CastOperator::RefCastDescEqNullable { hty: _ } => {
+                    (OperatorRule::DescriptorOperators, 36)
+                }
+                _ => (OperatorRule::NotConstant, 0),
+            }
         }
         _ => (OperatorRule::NotConstant, 0),
     }

@@ -135,7 +135,9 @@ impl<A: Allocator> SideTable<A> {
             CastOperator::RefTestNonNull { hty: _ }
             | CastOperator::RefTestNullable { hty: _ }
             | CastOperator::RefCastNonNull { hty: _ }
-            | CastOperator::RefCastNullable { hty: _ } => Ok(()),
+            | CastOperator::RefCastNullable { hty: _ }
+            | CastOperator::RefCastDescEqNonNull { hty: _ }
+            | CastOperator::RefCastDescEqNullable { hty: _ } => Ok(()),
         }
     }
 
