@@ -190,8 +190,9 @@ TOP = {k: v[-1] if v else k for k, v in ABOVE.items()}
 NUMBER = {0x7f: 'i32', 0x7e: 'i64', 0x7d: 'f32', 0x7c: 'f64', 0x7b: 'v128', 0x78: 'i8', 0x77: 'i16'}
 PROPOSALS = '''mutable_global reference_types multi_value bulk_memory simd threads shared_everything_threads floats multi_memory exceptions memory64
 extended_const function_references gc gc_types custom_page_sizes custom_descriptors stack_switching component_model
-vector_operators atomic_operators legacy_exceptions'''.split()
-OFF = ['shared_everything_threads', 'custom_descriptors', 'stack_switching', 'custom_page_sizes', 'component_model', 'vector_operators', 'atomic_operators', 'legacy_exceptions']
+vector_operators atomic_operators legacy_exceptions shared_atomic_operators'''.split()
+OFF = ['shared_everything_threads', 'custom_descriptors', 'stack_switching', 'custom_page_sizes', 'component_model', 'vector_operators', 'atomic_operators', 'legacy_exceptions',
+       'shared_atomic_operators']
 
 
 def features_of(text):

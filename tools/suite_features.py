@@ -322,6 +322,10 @@ class Scan:
             return self.immediates("struct.new_desc", ("u",))
         if (code, number) == (0xFE, 0x72):
             return self.need("gc", "reference_types", "shared_everything_threads")
+        if code == 0xFE and (number == 4 or 0x4F <= number < 0x72):
+            # atomic accesses to globals, tables, structures and arrays: an ordering and an index, and a structure's field; `pause` has none
+            self.need("shared_everything_threads")
+            return self.immediates("", () if number == 4 else ("u", "u", "u") if 0x5C <= number < 0x67 else ("u", "u"))
         if (code, number) not in PREFIXED:
             raise Bad("no operator")
         self.need("threads" if code == 0xFE else "simd")

@@ -4,7 +4,7 @@
 #include <stdio.h>
 #include <string.h>
 
-#define ALL ((UINT64_C(1) << 22) - 1)
+#define ALL (((UINT64_C(1) << 22) - 1) | RUTHVELKA_SHARED_ATOMIC_OPERATORS)
 static long wrong;
 
 /* Validates a module with a memory and a function whose body is `unreachable`, these bytes, `unreachable` and `end`. The bytes begin at byte 29. */
@@ -44,8 +44,7 @@ static void try_group(const struct group *group) {
 static void try_left_out(void) {
     static const struct group groups[] = {{"an operator of stack switching", {0xe0}, 0, 7}, 
         {"ref.get_desc, or a cast or a branch by a descriptor", {0xfb, 0x22}, 1, 5},
-        {"memory.discard", {0xfc, 0x12}, 1, 1}, {"an operator of wide arithmetic", {0xfc, 0x13}, 1, 4},
-        {"an atomic access to a global, a table, a structure or an array", {0xfe, 0x4f}, 1, 35}};
+        {"memory.discard", {0xfc, 0x12}, 1, 1}, {"an operator of wide arithmetic", {0xfc, 0x13}, 1, 4}};
     for (size_t it = 0; it < sizeof groups / sizeof *groups; it++) try_group(&groups[it]);
 }
 
@@ -62,6 +61,7 @@ static void try_opt_in(void) {
         {"v128.load", RUTHVELKA_VECTOR_OPERATORS, vectors, 4, {0xfd, 0x00, 0x00, 0x00}},
         {"atomic.fence", RUTHVELKA_ATOMIC_OPERATORS, atomics, 3, {0xfe, 0x03, 0x00}},
         {"i32.atomic.load", RUTHVELKA_ATOMIC_OPERATORS, atomics, 4, {0xfe, 0x10, 0x02, 0x00}},
+        {"pause", RUTHVELKA_SHARED_ATOMIC_OPERATORS, "illegal opcode 0xfe 4", 2, {0xfe, 0x04}},
         {"try", RUTHVELKA_LEGACY_EXCEPTIONS, legacy, 3, {0x06, 0x40, 0x0b}},
         {"try and rethrow", RUTHVELKA_LEGACY_EXCEPTIONS, legacy, 6, {0x06, 0x40, 0x19, 0x09, 0x00, 0x0b}},
         {"try and delegate", RUTHVELKA_LEGACY_EXCEPTIONS, legacy, 4, {0x06, 0x40, 0x18, 0x00}}};

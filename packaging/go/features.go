@@ -18,7 +18,7 @@ const (
 	SIMD WasmFeatures = 1 << 4
 	// Threads: shared memories.
 	Threads WasmFeatures = 1 << 5
-	// SharedEverythingThreads: types, tables and globals that are shared between threads; see "Left out".
+	// SharedEverythingThreads: types, tables and globals that are shared between threads.
 	SharedEverythingThreads WasmFeatures = 1 << 6
 	// Floats: floating-point types.
 	Floats WasmFeatures = 1 << 7
@@ -52,6 +52,8 @@ const (
 	LegacyExceptions WasmFeatures = 1 << 21
 	// CrateLimits: no proposal: the limits of the Rust crate's readers; see "Gates".
 	CrateLimits WasmFeatures = 1 << 22
+	// SharedAtomicOperators: atomic accesses to globals, tables, structures, arrays; they need SHARED_EVERYTHING_THREADS.
+	SharedAtomicOperators WasmFeatures = 1 << 26
 )
 
 const (
@@ -92,7 +94,8 @@ const (
 		ComponentModel |
 		VectorOperators |
 		AtomicOperators |
-		LegacyExceptions
+		LegacyExceptions |
+		SharedAtomicOperators
 )
 
 var names = map[string]WasmFeatures{
@@ -119,4 +122,5 @@ var names = map[string]WasmFeatures{
 	"ATOMIC_OPERATORS":          AtomicOperators,
 	"LEGACY_EXCEPTIONS":         LegacyExceptions,
 	"CRATE_LIMITS":              CrateLimits,
+	"SHARED_ATOMIC_OPERATORS":   SharedAtomicOperators,
 }

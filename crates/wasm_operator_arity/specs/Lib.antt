@@ -2,3 +2,4 @@ pub mod Asked
 pub mod Arities
 pub mod Sizes
 pub mod Lengths
+pub mod AccessCounts

@@ -5,7 +5,7 @@ ghost use Rattle.std.specs.Option.{option_and_then};
 ghost use Rattle.wasm_operator_arity.specs.Arities.{arity, in_u32, operator_shape};
 
 use crate::control::{call_arity, control_arity, parametric_arity};
-use crate::forms::form_counts;
+use crate::forms::{access_counts, form_counts};
 use crate::heap::{array_arity, cast_arity, conversion_arity, reference_arity, struct_arity};
 use crate::legacy::legacy_arity;
 use crate::module::ModuleArity;
@@ -13,7 +13,7 @@ use crate::values::{
     access_arity, memory_arity, numeric_arity, saturating_arity, table_arity, variable_arity,
 };
 use wasm_operators::Operator;
-use wasm_operators::operators_atomic::{atomic_form, vector_form};
+use wasm_operators::operators_atomic::{atomic_form, shared_form, vector_form};
 
 /// How many operands an operator takes and gives, whatever the counts.
 #[tactic(auto, using(crate::proofs::FormCounts::counted))]
@@ -39,6 +39,7 @@ fn counts_of<M: ModuleArity>(op: &Operator, resources: &M) -> Option<(u128, u128
         Operator::Array(op) => Some(array_arity(op)),
         Operator::Vector(op, values) => Some(form_counts(vector_form(*op), *values)),
         Operator::Atomic(op, values) => Some(form_counts(atomic_form(*op), *values)),
+        Operator::Shared(op, _) => Some(access_counts(shared_form(*op))),
     }
 }
 

@@ -30,3 +30,10 @@ pub use word::{Operand, Word};
 pub mod operators_plain {
     pub use wasm_operators_plain::NumberType;
 }
+
+/// Passed on from `wasm_operator_steps`.
+pub mod operator_steps {
+    pub use wasm_operator_steps::{
+        Access, AccessValues, SharedAtomicOperator, SharedForm, shared_code, shared_form,
+    };
+}

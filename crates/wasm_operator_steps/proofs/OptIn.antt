@@ -6,18 +6,21 @@ use Rattle.wasm_spec_rules.specs.WasmSpec.MatchingTests.{World}
 use Rattle.wasm_spec_rules.specs.Attempts.{◌>>=◌, guard}
 use Rattle.wasm_spec_rules.specs.WasmSpec.CrateLimits.{most_clauses}
 use Rattle.wasm_operators.specs.Control.{try_table}
-use Rattle.wasm_operators.specs.Instructions.{Instruction, control, vector, atomic}
+use Rattle.wasm_operators.specs.Instructions.{Instruction, control, vector, atomic, shared}
 use Rattle.wasm_operator_steps.specs.Bodies.{Surroundings}
 use Rattle.wasm_operator_steps.specs.Machine.{State}
 use Rattle.wasm_operators.specs.WasmOperatorsAtomic.WasmOperatorsVector.Forms as vectors
 use Rattle.wasm_operators.specs.WasmOperatorsAtomic.Forms as atomics
+use Rattle.wasm_operators.specs.WasmOperatorsAtomic.SharedForms as shareds
+use Rattle.wasm_operators.specs.WasmOperatorsAtomic.declared.shared_forms.SharedForm.{SharedForm}
+use Rattle.wasm_operators.specs.declared.accesses.AccessValues.{AccessValues}
 use Rattle.wasm_operators.specs.WasmOperatorsAtomic.WasmOperatorsVector.declared.forms.Form.{Form}
 use Rattle.wasm_operators.specs.declared.immediates.ImmediateValues.{ImmediateValues}
 use Rattle.wasm_operator_steps.specs.Forms.{types_taken, types_given, memarg_of}
-use Rattle.wasm_operator_steps.specs.Actions.{Needed, Check, has, Action, need, take, give, enter, these, joined, simd, threads, vector_operators, atomic_operators, exceptions, few_clauses}
+use Rattle.wasm_operator_steps.specs.Actions.{Needed, Check, has, Action, need, take, give, enter, these, joined, simd, threads, vector_operators, atomic_operators, shared_atomic_operators, shared_everything_threads, exceptions, few_clauses}
 use Rattle.wasm_operator_steps.specs.Meanings.{is_on, holds, run}
 use Rattle.wasm_operator_steps.specs.Machine.{try_table_kind}
-use Rattle.wasm_operator_steps.specs.Shapes.{shape_of, form_checks, address_of, nothing, block_checks, catch_checks}
+use Rattle.wasm_operator_steps.specs.Shapes.{shape_of, form_checks, shared_checks, shared_place, shared_value, access_of, access_taken, access_given, address_of, nothing, block_checks, catch_checks}
 use Rattle.wasm_operator_steps.specs.Steps.{checked, actions_of, is_open, step_in}
 use Rattle.wasm_operator_steps.specs.Laws.{OperatorsAreOptIn, ClausesAreLimited}
 
@@ -40,12 +43,18 @@ module _ {R : Type 0} (W : World R) (B : Surroundings R) where
 abbrev behind : Form → ImmediateValues → List Action
 behind f values = checked (form_checks f values) (take (joined (address_of (memarg_of values)) (these (types_taken f))) ∷ give (these (types_given f)) ∷ [])
 
+-- and what an atomic access does there
+abbrev behind_access : SharedForm → AccessValues → List Action
+behind_access f v = checked (shared_checks f v) (take (access_taken (access_of f) (shared_place f v) (shared_value f v)) ∷ give (access_given (access_of f) (shared_value f v)) ∷ [])
+
 pub operators_are_opt_in : {R : Type 0} → OperatorsAreOptIn R
 operators_are_opt_in W B = record {
   needs_vector_operators = λ e op values. step_by W B (vector op values) (first W B vector_operators (need (has simd) ∷ behind (vectors.form_of op) values) e);
   needs_simd = λ e op values. step_by W B (vector op values) (second W B (has vector_operators) simd (behind (vectors.form_of op) values) e);
   needs_atomic_operators = λ e op values. step_by W B (atomic op values) (first W B atomic_operators (need (has threads) ∷ behind (atomics.form_of op) values) e);
   needs_threads = λ e op values. step_by W B (atomic op values) (second W B (has atomic_operators) threads (behind (atomics.form_of op) values) e);
+  needs_shared_atomic_operators = λ e op values. step_by W B (shared op values) (first W B shared_atomic_operators (need (has shared_everything_threads) ∷ behind_access (shareds.shared_form_of op) values) e);
+  needs_shared_everything_threads = λ e op values. step_by W B (shared op values) (second W B (has shared_atomic_operators) shared_everything_threads (behind_access (shareds.shared_form_of op) values) e);
 }
 
 -- a number against a limit that is asked for, that isn't, and that the number keeps

@@ -34,12 +34,12 @@ pub data OperandTypes : Type 0 where
 
 -- the proposals that an instruction may need, and no more than so many catch clauses where limits are asked for
 pub data Needed : Type 0 where
-  multi_value reference_types bulk_memory exceptions function_references gc shared_everything_threads custom_descriptors simd threads vector_operators atomic_operators legacy_exceptions : Needed
+  multi_value reference_types bulk_memory exceptions function_references gc shared_everything_threads custom_descriptors simd threads vector_operators atomic_operators legacy_exceptions shared_atomic_operators : Needed
   few_clauses : ℕ → Needed
 
 -- Checks:
 -- what is needed is on; a written type is one that the features allow; a global is mutable; a local is set; a function counts as referenced;
--- a tag has no results, so that it is one of exceptions; each type of one list matches that of another; a reference type may be cast
+-- a tag has no results, so that it is one of exceptions; each type of one list matches that of another, or some of another; a reference type may be cast
 -- to another; references of its hierarchy can be tested, which those to continuations can't; a load or a store may have its memory
 -- argument; an operator of a form may have its immediates; all fields of a structure have a default, and it has no descriptor; a field is mutable, and is packed or isn't; the same of
 -- an array's elements, and they are numbers or vectors; the elements of one array may be stored in another; a data segment or an element
@@ -48,7 +48,7 @@ pub data Check : Type 0 where
   has : Needed → Check
   allows : Val ℕ → Check
   global_is_mutable local_is_set function_is_referenced is_exception : ℕ → Check
-  each_matches : OperandTypes → OperandTypes → Check
+  each_matches each_matches_some : OperandTypes → OperandTypes → Check
   may_be_cast : Ref ℕ → Ref ℕ → Check
   can_be_tested : Ref ℕ → Check
   is_aligned : MemoryOperator → MemArg → Check

@@ -13,9 +13,11 @@ use Rattle.wasm_operators.specs.WasmOperatorsPlain.declared.numeric.NumericOpera
 use Rattle.wasm_operators.specs.Control.{Block, try_table}
 use Rattle.wasm_operators.specs.declared.control.Catch.{Catch}
 use Rattle.wasm_operators.specs.Maps.{map_block}
-use Rattle.wasm_operators.specs.Instructions.{Instruction, control, numeric, legacy, vector, atomic}
+use Rattle.wasm_operators.specs.Instructions.{Instruction, control, numeric, legacy, vector, atomic, shared}
 use Rattle.wasm_operators.specs.WasmOperatorsAtomic.WasmOperatorsVector.declared.operators.VectorOperator.{VectorOperator}
 use Rattle.wasm_operators.specs.WasmOperatorsAtomic.declared.operators.AtomicOperator.{AtomicOperator}
+use Rattle.wasm_operators.specs.WasmOperatorsAtomic.declared.shared.SharedAtomicOperator.{SharedAtomicOperator}
+use Rattle.wasm_operators.specs.declared.accesses.AccessValues.{AccessValues}
 use Rattle.wasm_operators.specs.declared.immediates.ImmediateValues.{ImmediateValues}
 use Rattle.wasm_operators.specs.Legacy.{Legacy}
 use Rattle.wasm_spec_rules.specs.Worlds.{declared_in, world_of}
@@ -55,12 +57,15 @@ pub record KeepsVerdicts {R S : Type 0} (same : R → R → Bool) (renamed : S �
 abbrev pub VerdictsRename : (R S : Type 0) → Type 0
 VerdictsRename R S = Discrete R → (same : R → R → Bool) (renamed : S → S → Bool) (f : R → S) (B : Surroundings R) → KeepsVerdicts same renamed f B
 
--- Where one of their two features is off no step by an operator on vectors is taken, and none by an atomic operator.
+-- Where one of their two features is off no step by an operator on vectors is taken, none by an atomic operator, and none by an atomic
+-- access to a global, a table, a structure or an array.
 pub record AreOptIn {R : Type 0} (W : World R) (B : Surroundings R) : Type 0 where
   pub needs_vector_operators : B.features.vector_operators ≡ false → (op : VectorOperator) (values : ImmediateValues) (s : State R) → step_in W B (vector op values) s ≡ None
   pub needs_simd : B.features.simd ≡ false → (op : VectorOperator) (values : ImmediateValues) (s : State R) → step_in W B (vector op values) s ≡ None
   pub needs_atomic_operators : B.features.atomic_operators ≡ false → (op : AtomicOperator) (values : ImmediateValues) (s : State R) → step_in W B (atomic op values) s ≡ None
   pub needs_threads : B.features.threads ≡ false → (op : AtomicOperator) (values : ImmediateValues) (s : State R) → step_in W B (atomic op values) s ≡ None
+  pub needs_shared_atomic_operators : B.features.shared_atomic_operators ≡ false → (op : SharedAtomicOperator) (values : AccessValues) (s : State R) → step_in W B (shared op values) s ≡ None
+  pub needs_shared_everything_threads : B.features.shared_everything_threads ≡ false → (op : SharedAtomicOperator) (values : AccessValues) (s : State R) → step_in W B (shared op values) s ≡ None
 
 abbrev pub OperatorsAreOptIn : (R : Type 0) → Type 0
 OperatorsAreOptIn R = (W : World R) (B : Surroundings R) → AreOptIn W B

@@ -2,6 +2,8 @@ pub use Rattle.wasm_spec_rules.specs as WasmSpecRules
 pub use Rattle.wasm_operators.specs.Control
 pub use Rattle.wasm_operators.specs.SeenControl
 pub use Rattle.wasm_operators.specs.declared.control.FrameKind
+pub use Rattle.wasm_operators.specs.WasmOperatorsAtomic.declared.shared_forms.Access
+pub use Rattle.wasm_operators.specs.WasmOperatorsAtomic.declared.shared_forms.SharedForm
 pub mod Matching
 pub mod Bodies
 pub mod Machine

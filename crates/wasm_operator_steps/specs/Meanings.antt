@@ -15,11 +15,11 @@ use Rattle.wasm_operators.specs.WasmOperatorsPlain.declared.memories.MemoryOpera
 use Rattle.wasm_operators.specs.WasmOperatorsPlain.declared.memories.MemArg.{MemArg}
 use Rattle.wasm_spec_rules.specs.Attempts.{◌>>=◌, guard, passes, among, last_of, front_of, list_of}
 use Rattle.wasm_spec_rules.specs.Signatures.{Signature, signature_of, resolve_heap, resolve_ref, resolve_val, resolve_vals}
-use Rattle.wasm_operator_steps.specs.Matching.{matches_vals, matches_storage}
+use Rattle.wasm_operator_steps.specs.Matching.{matches_vals, match_some, matches_storage}
 use Rattle.wasm_operator_steps.specs.Bodies.{Surroundings}
 use Rattle.wasm_operator_steps.specs.Machine.{Operand, bottom_reference, open_reference, known, Kind, loop_kind, if_kind, else_kind, is_if, may_catch, Frame, State, delegates, rethrows, push_operand, push_vals, pop_any, pop_reference, non_null, same_number, chosen, become_unreachable, push_frame, set_local, pop_vals}
 use Rattle.wasm_operator_steps.specs.Forms.{suits_form, memarg_of, reaches_memory}
-use Rattle.wasm_operator_steps.specs.Actions.{Signed, of_type, of_function, of_tag, OperandTypes, these, params, results, label, returned, local, global, function_reference, new_reference, fields, element, field, table_address, memory_address, table_element, segment, lesser_table_address, lesser_memory_address, top, descriptor_of, repeated, front, last, joined, Needed, multi_value, reference_types, bulk_memory, exceptions, function_references, gc, shared_everything_threads, custom_descriptors, legacy_exceptions, few_clauses, atomic_operators, vector_operators, threads, simd, Check, has, allows, global_is_mutable, local_is_set, function_is_referenced, is_exception, each_matches, may_be_cast, can_be_tested, is_aligned, suits, fields_have_defaults, has_no_descriptor, field_is_mutable, field_is_packed, element_is_mutable, element_has_default, element_is_number, element_is_packed, element_is_storable, data_is_there, segment_is_there, reaches_global, reaches_table, reaches_type, reaches_function, Action, need, refuse, take, give, take_any, take_reference, take_comparable, make_non_null, choose, stop, turn_to_else, leave, take_below, convert, enter, turn_to_catch, find_outside, find_caught, set, branch_on_null, branch_to_one_of}
+use Rattle.wasm_operator_steps.specs.Actions.{Signed, of_type, of_function, of_tag, OperandTypes, these, params, results, label, returned, local, global, function_reference, new_reference, fields, element, field, table_address, memory_address, table_element, segment, lesser_table_address, lesser_memory_address, top, descriptor_of, repeated, front, last, joined, Needed, multi_value, reference_types, bulk_memory, exceptions, function_references, gc, shared_everything_threads, custom_descriptors, legacy_exceptions, shared_atomic_operators, few_clauses, atomic_operators, vector_operators, threads, simd, Check, has, allows, global_is_mutable, local_is_set, function_is_referenced, is_exception, each_matches, each_matches_some, may_be_cast, can_be_tested, is_aligned, suits, fields_have_defaults, has_no_descriptor, field_is_mutable, field_is_packed, element_is_mutable, element_has_default, element_is_number, element_is_packed, element_is_storable, data_is_there, segment_is_there, reaches_global, reaches_table, reaches_type, reaches_function, Action, need, refuse, take, give, take_any, take_reference, take_comparable, make_non_null, choose, stop, turn_to_else, leave, take_below, convert, enter, turn_to_catch, find_outside, find_caught, set, branch_on_null, branch_to_one_of}
 
 module _ {R : Type 0} where
   abbrev pub ref_to : Bool → Heap R → Val R
@@ -84,6 +84,7 @@ is_on F threads = F.threads
 is_on F vector_operators = F.vector_operators
 is_on F atomic_operators = F.atomic_operators
 is_on F legacy_exceptions = F.legacy_exceptions
+is_on F shared_atomic_operators = F.shared_atomic_operators
 is_on F (few_clauses n) = is_within F most_clauses n
 
 -- an alignment no greater than the bytes accessed, and an offset that an address has room for
@@ -204,6 +205,7 @@ module _ {R : Type 0} (W : World R) (B : Surroundings R) where
   holds s (function_is_referenced n) = among n B.context.references
   holds s (is_exception n) = passes (λ g. length g.gives == 0) (signature_at (of_tag n))
   holds s (each_matches t u) = passes (λ vs. passes (matches_vals W vs) (types_at s u)) (types_at s t)
+  holds s (each_matches_some t u) = passes (λ vs. passes (λ ws. match_some W ws vs) (types_at s u)) (types_at s t)
   holds s (may_be_cast r q) = passes (λ a. passes (casts a) (resolve_ref B.context.types q)) (resolve_ref B.context.types r)
   holds s (can_be_tested r) = passes (λ h. not (is_of_continuations h)) (top_heap r.heap)
   holds s (is_aligned op m) = passes (allows_memarg op m) (slice_get B.context.memories m.memory)

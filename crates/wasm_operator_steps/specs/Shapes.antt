@@ -1,7 +1,7 @@
 -- The first table: each instruction has one of few shapes, with what it checks, takes and gives.
 -- Core Specification 3.0, Validation, Instructions, and the proposals for shared references and for custom descriptors.
 use Rattle.std.specs.Prelude.{ℕ, Bool, true, false, if◌then◌else◌, List, [], ◌∷◌, ◌++◌, length, map, Option, Some, None}
-use Rattle.wasm_spec_rules.specs.WasmSpec.Syntax.{AbstractHeap, any_heap, i31_heap, array_heap, func_heap, extern_heap, exn_heap, Heap, abstract_heap, concrete, Ref, Val, i32, i64, f32, f64, v128, reference}
+use Rattle.wasm_spec_rules.specs.WasmSpec.Syntax.{AbstractHeap, any_heap, eq_heap, i31_heap, array_heap, func_heap, extern_heap, exn_heap, Heap, abstract_heap, concrete, Ref, Val, i32, i64, f32, f64, v128, reference}
 use Rattle.wasm_operators.specs.WasmOperatorsPlain.Signatures.{signature_of, saturating_signature_of}
 use Rattle.wasm_operators.specs.WasmOperatorsPlain.declared.signatures.NumberType.{NumberType}
 use Rattle.wasm_operators.specs.WasmOperatorsPlain.declared.signatures.NumberType.TheVariants as number
@@ -42,9 +42,16 @@ use Rattle.wasm_operators.specs.WasmOperatorsAtomic.WasmOperatorsVector.declared
 use Rattle.wasm_operators.specs.WasmOperatorsAtomic.Forms as atomics
 use Rattle.wasm_operators.specs.WasmOperatorsAtomic.declared.operators.AtomicOperator.{AtomicOperator}
 use Rattle.wasm_operators.specs.WasmOperatorsAtomic.WasmOperatorsVector.declared.forms.Form.{Form}
+use Rattle.wasm_operators.specs.WasmOperatorsAtomic.SharedForms as shareds
+use Rattle.wasm_operators.specs.WasmOperatorsAtomic.declared.shared.SharedAtomicOperator.{SharedAtomicOperator}
+use Rattle.wasm_operators.specs.WasmOperatorsAtomic.declared.shared_forms.SharedForm.{SharedForm}
+use Rattle.wasm_operators.specs.WasmOperatorsAtomic.declared.shared_forms.SharedForm.TheVariants as form
+use Rattle.wasm_operators.specs.WasmOperatorsAtomic.declared.shared_forms.Access.{Access}
+use Rattle.wasm_operators.specs.WasmOperatorsAtomic.declared.shared_forms.Access.TheVariants as access
+use Rattle.wasm_operators.specs.declared.accesses.AccessValues.{AccessValues}
 use Rattle.wasm_operators.specs.declared.immediates.ImmediateValues.{ImmediateValues}
 use Rattle.wasm_operator_steps.specs.Forms.{types_taken, types_given, memarg_of}
-use Rattle.wasm_operator_steps.specs.Actions.{of_type, of_function, of_tag, OperandTypes, these, params, results, label, returned, local, global, function_reference, new_reference, fields, element, field, table_address, memory_address, table_element, segment, lesser_table_address, lesser_memory_address, top, descriptor_of, repeated, front, last, joined, Needed, multi_value, reference_types, bulk_memory, exceptions, function_references, gc, shared_everything_threads, custom_descriptors, legacy_exceptions, few_clauses, Check, has, allows, global_is_mutable, local_is_set, function_is_referenced, is_exception, each_matches, may_be_cast, can_be_tested, is_aligned, fields_have_defaults, has_no_descriptor, field_is_mutable, field_is_packed, element_is_mutable, element_has_default, element_is_number, element_is_packed, element_is_storable, data_is_there, segment_is_there, reaches_global, reaches_table, reaches_type, reaches_function, suits, simd, threads, vector_operators, atomic_operators}
+use Rattle.wasm_operator_steps.specs.Actions.{of_type, of_function, of_tag, OperandTypes, these, params, results, label, returned, local, global, function_reference, new_reference, fields, element, field, table_address, memory_address, table_element, segment, lesser_table_address, lesser_memory_address, top, descriptor_of, repeated, front, last, joined, Needed, multi_value, reference_types, bulk_memory, exceptions, function_references, gc, shared_everything_threads, custom_descriptors, legacy_exceptions, shared_atomic_operators, few_clauses, Check, has, allows, global_is_mutable, local_is_set, function_is_referenced, is_exception, each_matches, each_matches_some, may_be_cast, can_be_tested, is_aligned, fields_have_defaults, has_no_descriptor, field_is_mutable, field_is_packed, element_is_mutable, element_has_default, element_is_number, element_is_packed, element_is_storable, data_is_there, segment_is_there, reaches_global, reaches_table, reaches_type, reaches_function, suits, simd, threads, vector_operators, atomic_operators}
 
 -- Shapes: takes some operands and gives others; takes some, and what follows isn't reached; takes some and enters a block; `end`; `else`;
 -- takes any operand; chooses one of two; tests a reference for null; asserts that it isn't null; branches where it is null; branches
@@ -346,6 +353,85 @@ vector_shape op values = form_shape (has vector_operators ∷ has simd ∷ []) (
 abbrev pub atomic_shape : AtomicOperator → ImmediateValues → Shape
 atomic_shape op values = form_shape (has atomic_operators ∷ has threads ∷ []) (atomics.form_of op) values
 
+-- Atomic accesses to globals, tables, structures and arrays (Shared-Everything Threads, Validation, Instructions), each told by its form.
+-- What is stored is a number, or a reference below `any` where an access gives or stores it, and below `eq` where it compares it. Below
+-- the shared ones of these it is in tables, structures and arrays.
+abbrev pub with_reference_below : Bool → AbstractHeap → OperandTypes
+with_reference_below shared k = these (i32 ∷ i64 ∷ reference_to true (abstract_heap shared k) ∷ [])
+
+abbrev pub allowed_types : Bool → Access → OperandTypes
+allowed_types shared access.Get = with_reference_below shared any_heap
+allowed_types shared access.Set = with_reference_below shared any_heap
+allowed_types shared access.Compute = these (i32 ∷ i64 ∷ [])
+allowed_types shared access.Exchange = with_reference_below shared any_heap
+allowed_types shared access.Compare = with_reference_below shared eq_heap
+
+-- the checks of what is written, and of what is written as it was given, so that it isn't packed
+abbrev pub where_written : Access → List Check → List Check
+where_written access.Get cs = []
+where_written _ cs = cs
+
+abbrev pub where_given : Access → List Check → List Check
+where_given access.Set cs = []
+where_given _ cs = cs
+
+-- the operands behind what says where, and what is given
+abbrev pub access_taken : Access → OperandTypes → OperandTypes → OperandTypes
+access_taken access.Get place value = place
+access_taken access.Compare place value = joined place (joined value value)
+access_taken _ place value = joined place value
+
+abbrev pub access_given : Access → OperandTypes → OperandTypes
+access_given access.Set value = nothing
+access_given _ value = value
+
+-- what says where, and the type of what is stored there
+abbrev pub shared_place : SharedForm → AccessValues → OperandTypes
+shared_place form.Pause v = nothing
+shared_place (form.Global a) v = nothing
+shared_place (form.Table a) v = table_address v.index
+shared_place (form.Field a) v = one (nullable_to v.index)
+shared_place form.PackedField v = one (nullable_to v.index)
+shared_place (form.Element a) v = these (nullable_to v.index ∷ i32 ∷ [])
+shared_place form.PackedElement v = these (nullable_to v.index ∷ i32 ∷ [])
+
+abbrev pub shared_value : SharedForm → AccessValues → OperandTypes
+shared_value form.Pause v = nothing
+shared_value (form.Global a) v = global v.index
+shared_value (form.Table a) v = table_element v.index
+shared_value (form.Field a) v = field v.index v.field_index
+shared_value form.PackedField v = field v.index v.field_index
+shared_value (form.Element a) v = element v.index
+shared_value form.PackedElement v = element v.index
+
+abbrev pub access_of : SharedForm → Access
+access_of form.Pause = access.Get
+access_of (form.Global a) = a
+access_of (form.Table a) = a
+access_of (form.Field a) = a
+access_of form.PackedField = access.Get
+access_of (form.Element a) = a
+access_of form.PackedElement = access.Get
+
+abbrev pub shared_checks : SharedForm → AccessValues → List Check
+shared_checks form.Pause v = []
+shared_checks (form.Global a) v = reaches_global v.index ∷ each_matches_some (global v.index) (allowed_types false a) ∷ where_written a (global_is_mutable v.index ∷ [])
+shared_checks (form.Table a) v = reaches_table v.index ∷ each_matches_some (table_element v.index) (allowed_types true a) ∷ []
+shared_checks (form.Field a) v =
+    has gc ∷ reaches_type v.index ∷ each_matches_some (field v.index v.field_index) (allowed_types true a)
+    ∷ where_written a (field_is_mutable v.index v.field_index ∷ []) ++ where_given a (field_is_packed false v.index v.field_index ∷ [])
+shared_checks form.PackedField v = has gc ∷ reaches_type v.index ∷ field_is_packed true v.index v.field_index ∷ []
+shared_checks (form.Element a) v =
+    has gc ∷ reaches_type v.index ∷ each_matches_some (element v.index) (allowed_types true a)
+    ∷ where_written a (element_is_mutable v.index ∷ []) ++ where_given a (element_is_packed false v.index ∷ [])
+shared_checks form.PackedElement v = has gc ∷ reaches_type v.index ∷ element_is_packed true v.index ∷ []
+
+abbrev pub sharing_shape : List Check → SharedForm → AccessValues → Shape
+sharing_shape cs f v = plain (cs ++ shared_checks f v) (access_taken (access_of f) (shared_place f v) (shared_value f v)) (access_given (access_of f) (shared_value f v))
+
+abbrev pub shared_shape : SharedAtomicOperator → AccessValues → Shape
+shared_shape op v = sharing_shape (has shared_atomic_operators ∷ has shared_everything_threads ∷ []) (shareds.shared_form_of op) v
+
 -- all instructions
 abbrev pub shape_of : Instruction ℕ → Shape
 shape_of (instruction.control op) = control_shape op
@@ -366,3 +452,4 @@ shape_of (instruction.structure op) = struct_shape op
 shape_of (instruction.array op) = array_shape op
 shape_of (instruction.vector op values) = vector_shape op values
 shape_of (instruction.atomic op values) = atomic_shape op values
+shape_of (instruction.shared op values) = shared_shape op values

@@ -12,7 +12,10 @@ ghost use Rattle.wasm_operator_steps.specs.FormExamples.{Vectors, NoVectors, Ato
 ghost use Rattle.wasm_operator_steps.specs.SharedExamples.{ReachesGlobalsAndTables, ReachesFunctions, ReachesStructures, ReachesArrays, ReachesTheRest};
 
 // What the definitions here speak of, for the crates that stand on them.
-pub use wasm_operators::{BlockType, FrameKind};
+pub use wasm_operators::operators_atomic::{
+    Access, SharedAtomicOperator, SharedForm, shared_code, shared_form,
+};
+pub use wasm_operators::{AccessValues, BlockType, FrameKind};
 
 /// Steps over other identities of types are the same steps with each identity renamed, where the
 /// renaming keeps which are the same.
@@ -21,8 +24,8 @@ pub fn steps_rename<R, S>()
     ensures renamed { StepsRename R S }
 {}
 
-/// Without a feature that they need, no step by an operator on vectors is taken, and none by an atomic
-/// operator.
+/// Without a feature that they need, no step by an operator on vectors is taken, none by an atomic
+/// operator, and none by an atomic access to a global, a table, a structure or an array.
 #[tactic(auto, using(crate::proofs::OptIn::operators_are_opt_in))]
 pub fn operators_are_opt_in<R>()
     ensures opt_in { OperatorsAreOptIn R }

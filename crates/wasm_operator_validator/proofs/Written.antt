@@ -93,6 +93,7 @@ all_written (instruction.structure op) = tt
 all_written (instruction.array op) = tt
 all_written (instruction.vector op values) = tt
 all_written (instruction.atomic op values) = tt
+all_written (instruction.shared op values) = tt
 
 abbrev as_written : Instruction ℕ × List ℕ → Instruction UnpackedIndex × List ℕ
 as_written x = (map_instruction written x.0, x.1)

@@ -14,7 +14,7 @@ use wasm_operator_casts::{step_cast, step_conversion, step_reference};
 use wasm_operator_fast::operator_numbers::{
     access_memory, bulk_memory, compute, constant, step_atomic, step_table, step_vector,
 };
-use wasm_operator_structs::step_struct;
+use wasm_operator_structs::{step_shared, step_struct};
 use wasm_operators::Operator;
 use wasm_operators::operators_plain::{numeric_signature, saturating_signature};
 
@@ -57,5 +57,6 @@ pub fn step<'a, A: Allocator, T: WasmModuleResources>(
         Operator::Array(op) => step_array(stacks, resources, op),
         Operator::Vector(op, values) => step_vector(stacks, resources, op, values),
         Operator::Atomic(op, values) => step_atomic(stacks, resources, op, values),
+        Operator::Shared(op, values) => step_shared(stacks, resources, op, values),
     }
 }

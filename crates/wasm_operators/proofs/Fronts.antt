@@ -23,7 +23,14 @@ use Rattle.wasm_operators_atomic.specs.Codes as atomics
 use Rattle.wasm_operators_atomic.specs.Forms as atomic_forms
 use Rattle.wasm_operators.specs.declared.immediates.ImmediateValues.{ImmediateValues}
 use Rattle.wasm_operators.specs.FormImmediates.{zero_at, values_at, behind_memarg, place_at, immediates_at}
-use Rattle.wasm_operators.specs.Instructions.{with_memarg, with_form, aggregate_from, bulk_from, vectors_from, atomics_from, prefixed_from, plain_from, instruction_at}
+use Rattle.wasm_operators_atomic.specs.SharedCodes as shareds
+use Rattle.wasm_operators_atomic.specs.SharedForms as shared_forms
+use Rattle.wasm_operators_atomic.specs.declared.shared.SharedAtomicOperator.{SharedAtomicOperator}
+use Rattle.wasm_operators_atomic.specs.declared.shared_forms.SharedForm.{SharedForm}
+use Rattle.wasm_operators_atomic.specs.declared.shared_forms.SharedForm.TheVariants as shared_form
+use Rattle.wasm_operators.specs.declared.accesses.Ordering.{Ordering}
+use Rattle.wasm_operators.specs.Accesses.{ordering_from, ordering_at, field_behind, place_of, access_values_at}
+use Rattle.wasm_operators.specs.Instructions.{with_memarg, with_form, with_access, is_shared, aggregate_from, bulk_from, vectors_from, atomics_from, prefixed_from, plain_from, instruction_at}
 use Rattle.wasm_operators.specs.Legacy.{legacy_from}
 
 module _ {more : List ℕ} where
@@ -75,6 +82,30 @@ module _ {more : List ℕ} where
   with_form-reads : {X Y : Type 0} (op : X → ImmediateValues → Y) (form : X → Form) (found : Option X) (bytes : List ℕ) → Reads more 0 bytes (with_form op form bytes found) (with_form op form (bytes ++ more) found)
   with_form-reads op form None bytes = reads_none
   with_form-reads op form (Some x) bytes = reads_map _ (immediates-reads (form x) bytes)
+
+  -- immediates of atomic accesses
+  ordering-reads : (bytes : List ℕ) → Reads more 1 bytes (ordering_at bytes) (ordering_at (bytes ++ more))
+  ordering-reads bytes = reads_then _ (u32-reads bytes) (λ n. reads_value (λ o. o) (ordering_from n.0))
+
+  field-reads : (has_field : Bool) (o : Ordering) (x : ℕ) (bytes : List ℕ) → Reads more 0 bytes (field_behind has_field o x bytes) (field_behind has_field o x (bytes ++ more))
+  field-reads true o x bytes = reads_weaken (reads_map _ (u32-reads bytes))
+  field-reads false o x bytes = reads_here
+
+  place-reads : (has_field : Bool) (bytes : List ℕ) → Reads more 0 bytes (place_of has_field bytes) (place_of has_field (bytes ++ more))
+  place-reads has_field bytes = reads_weaken (reads_then _ (ordering-reads bytes) (λ o. reads_then _ (u32-reads o.1) (λ x. field-reads has_field o.0 x.0 x.1)))
+
+  access_values-reads : (f : SharedForm) (bytes : List ℕ) → Reads more 0 bytes (access_values_at f bytes) (access_values_at f (bytes ++ more))
+  access_values-reads shared_form.Pause bytes = reads_here
+  access_values-reads (shared_form.Global a) bytes = place-reads false bytes
+  access_values-reads (shared_form.Table a) bytes = place-reads false bytes
+  access_values-reads (shared_form.Field a) bytes = place-reads true bytes
+  access_values-reads shared_form.PackedField bytes = place-reads true bytes
+  access_values-reads (shared_form.Element a) bytes = place-reads false bytes
+  access_values-reads shared_form.PackedElement bytes = place-reads false bytes
+
+  with_access-reads : {R : Type 0} (found : Option SharedAtomicOperator) (bytes : List ℕ) → Reads more 0 bytes (with_access {R = R} bytes found) (with_access {R = R} (bytes ++ more) found)
+  with_access-reads None bytes = reads_none
+  with_access-reads (Some op) bytes = reads_map _ (access_values-reads (shared_forms.shared_form_of op) bytes)
 
   module _ {R : Type 0} (to : ℕ → R) where
     block-reads : (bytes : List ℕ) → Reads more 1 bytes (block_at to bytes) (block_at to (bytes ++ more))
@@ -184,7 +215,8 @@ module _ {more : List ℕ} where
     unfolding atomics_from
     atomics-reads n bytes =
         reads_if (n == 0x72) (reads_value _ (shared_from n))
-        (with_form-reads _ atomic_forms.form_of (atomics.operator_from n) bytes)
+        (reads_if (is_shared n) (with_access-reads (shareds.shared_operator_from n) bytes)
+        (with_form-reads _ atomic_forms.form_of (atomics.operator_from n) bytes))
 
     plain-reads : (b : ℕ) (bytes : List ℕ) → Reads more 0 bytes (plain_from to b bytes) (plain_from to b (bytes ++ more))
     unfolding plain_from

@@ -21,7 +21,11 @@ use Rattle.wasm_operators_atomic.specs.Codes as atomics
 use Rattle.wasm_operators_atomic.specs.Forms as atomic_forms
 use Rattle.wasm_operators_atomic.specs.declared.operators.AtomicOperator.{AtomicOperator}
 use Rattle.wasm_operators.specs.FormImmediates.{immediates_at}
-use Rattle.wasm_operators.specs.Instructions.{vector, atomic, with_memarg, with_form, aggregate_from, bulk_from, vectors_from, atomics_from, prefixed_from, plain_from, instruction_at}
+use Rattle.wasm_operators_atomic.specs.SharedCodes as shareds
+use Rattle.wasm_operators_atomic.specs.SharedForms as shared_forms
+use Rattle.wasm_operators_atomic.specs.declared.shared.SharedAtomicOperator.{SharedAtomicOperator}
+use Rattle.wasm_operators.specs.Accesses.{access_values_at}
+use Rattle.wasm_operators.specs.Instructions.{vector, atomic, with_memarg, with_form, with_access, is_shared, aggregate_from, bulk_from, vectors_from, atomics_from, prefixed_from, plain_from, instruction_at}
 use Rattle.wasm_operators.specs.Maps.{map_block, map_control, map_legacy, map_parametric, map_reference, map_cast, map_instruction, map_try_table, map_branch}
 use Rattle.wasm_operators.specs.Legacy.{legacy_from}
 use Rattle.wasm_operators_plain.specs.declared.memories.MemoryOperator.{MemoryOperator}
@@ -60,6 +64,10 @@ module _ {R S : Type 0} (f : R → S) (to : ℕ → R) where
   atomic-renames : (found : Option AtomicOperator) (bytes : List ℕ) → Renames (map_instruction f) (with_form atomic atomic_forms.form_of bytes found) (with_form atomic atomic_forms.form_of bytes found)
   atomic-renames None bytes = renames_none
   atomic-renames (Some op) bytes = renames_same_map (immediates_at (atomic_forms.form_of op) bytes) _ _ (λ i. refl)
+
+  access-renames : (found : Option SharedAtomicOperator) (bytes : List ℕ) → Renames (map_instruction f) (with_access bytes found) (with_access bytes found)
+  access-renames None bytes = renames_none
+  access-renames (Some op) bytes = renames_same_map (access_values_at (shared_forms.shared_form_of op) bytes) _ _ (λ i. refl)
 
   control-renames : (b : ℕ) (bytes : List ℕ) → Renames (map_control f) (control_from to b bytes) (control_from then_renamed b bytes)
   unfolding control_from
@@ -143,7 +151,7 @@ module _ {R S : Type 0} (f : R → S) (to : ℕ → R) where
 
   atomics-renames : (n : ℕ) (bytes : List ℕ) → Renames (map_instruction f) (atomics_from to n bytes) (atomics_from then_renamed n bytes)
   unfolding atomics_from
-  atomics-renames n bytes = renames_if (n == 0x72) (renames_same_map (shared_from n) _ _ (λ x. refl)) (atomic-renames (atomics.operator_from n) bytes)
+  atomics-renames n bytes = renames_if (n == 0x72) (renames_same_map (shared_from n) _ _ (λ x. refl)) (renames_if (is_shared n) (access-renames (shareds.shared_operator_from n) bytes) (atomic-renames (atomics.operator_from n) bytes))
 
   plain-renames : (b : ℕ) (bytes : List ℕ) → Renames (map_instruction f) (plain_from to b bytes) (plain_from then_renamed b bytes)
   unfolding plain_from

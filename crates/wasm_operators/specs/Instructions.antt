@@ -1,6 +1,6 @@
 -- Core Specification 3.0, Binary Format, Instructions: one instruction at the front of the bytes. Blocks are not taken together
 -- with their bodies. A type index x in a type is read as what it stands for, `to x`.
-use Rattle.std.specs.Prelude.{ℕ, ◌==◌, nat_lt, if◌then◌else◌, List, Option, Some, None}
+use Rattle.std.specs.Prelude.{ℕ, ◌==◌, ◌||◌, nat_le, nat_lt, if◌then◌else◌, Bool, List, Option, Some, None}
 use Rattle.std.specs.Option.{option_map, option_and_then}
 use Rattle.wasm_operators_plain.specs.WasmSpec.Values.{byte_at, u32_at}
 use Rattle.wasm_operators.specs.Control.{Control, Parametric, control_from, parametric_from}
@@ -34,7 +34,12 @@ use Rattle.wasm_operators_atomic.specs.WasmOperatorsVector.declared.operators.Ve
 use Rattle.wasm_operators_atomic.specs.Codes as atomics
 use Rattle.wasm_operators_atomic.specs.Forms as atomic_forms
 use Rattle.wasm_operators_atomic.specs.declared.operators.AtomicOperator.{AtomicOperator}
+use Rattle.wasm_operators_atomic.specs.SharedCodes as shareds
+use Rattle.wasm_operators_atomic.specs.SharedForms as shared_forms
+use Rattle.wasm_operators_atomic.specs.declared.shared.SharedAtomicOperator.{SharedAtomicOperator}
 use Rattle.wasm_operators.specs.FormImmediates.{immediates_at}
+use Rattle.wasm_operators.specs.Accesses.{access_values_at}
+use Rattle.wasm_operators.specs.declared.accesses.AccessValues.{AccessValues}
 use Rattle.wasm_operators.specs.declared.immediates.ImmediateValues.{ImmediateValues}
 
 -- the instructions by family
@@ -57,6 +62,7 @@ pub data Instruction (R : Type 0) : Type 0 where
   array : ArrayOperator → Instruction R
   vector : VectorOperator → ImmediateValues → Instruction R
   atomic : AtomicOperator → ImmediateValues → Instruction R
+  shared : SharedAtomicOperator → AccessValues → Instruction R
 
 -- what was read of a family, as an instruction
 abbrev pub of_family : {X Y : Type 0} → (X → Y) → Option (X × List ℕ) → Option (Y × List ℕ)
@@ -75,6 +81,15 @@ with_memarg bytes (Some op) = option_map (λ m. (access op m.0, m.1)) (memarg_at
 abbrev pub with_form : {X Y : Type 0} → (X → ImmediateValues → Y) → (X → Form) → List ℕ → Option X → Option (Y × List ℕ)
 with_form op form bytes None = None
 with_form op form bytes (Some x) = option_map (λ i. (op x i.0, i.1)) (immediates_at (form x) bytes)
+
+-- an atomic access to a global, a table, a structure or an array, or `pause`, and its immediates
+abbrev pub with_access : {R : Type 0} → List ℕ → Option SharedAtomicOperator → Option (Instruction R × List ℕ)
+with_access bytes None = None
+with_access bytes (Some x) = option_map (λ v. (shared x v.0, v.1)) (access_values_at (shared_forms.shared_form_of x) bytes)
+
+-- the numbers behind the prefix fe of `pause` and from the first of these accesses on
+abbrev pub is_shared : ℕ → Bool
+is_shared n = (n == 4) || nat_le 0x4f n
 
 module _ {R : Type 0} (to : ℕ → R) where
   -- behind the prefix fb
@@ -103,7 +118,8 @@ module _ {R : Type 0} (to : ℕ → R) where
   unfoldable pub atomics_from : ℕ → List ℕ → Option (Instruction R × List ℕ)
   atomics_from n bytes =
       if n == 0x72 then with_nothing conversion bytes (shared_from n)
-      else with_form atomic atomic_forms.form_of bytes (atomics.operator_from n)
+      else (if is_shared n then with_access bytes (shareds.shared_operator_from n)
+      else with_form atomic atomic_forms.form_of bytes (atomics.operator_from n))
 
   -- behind a prefix from fb on
   unfoldable pub prefixed_from : ℕ → ℕ → List ℕ → Option (Instruction R × List ℕ)

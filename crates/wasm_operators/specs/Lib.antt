@@ -6,6 +6,7 @@ pub mod Control
 pub mod SeenControl
 pub use Rattle.wasm_operators_atomic.specs as WasmOperatorsAtomic
 pub mod FormImmediates
+pub mod Accesses
 pub mod Legacy
 pub mod SeenLegacy
 pub mod Instructions

@@ -4,7 +4,7 @@ use Rattle.wasm_operators_plain.specs.WasmSpec.Syntax.{Ref, map_heap, map_ref, m
 use Rattle.wasm_operators.specs.Control.{Block, empty_block, value_block, func_block, Control, unreachable, nop, else_, end_, throw_ref, return_, block, loop, if_, try_table, throw, br, br_if, br_table, Parametric, drop_, select, select_of}
 use Rattle.wasm_operators.specs.Legacy.{Legacy, try_, catch_, rethrow, delegate, catch_all}
 use Rattle.wasm_operators.specs.References.{Reference, ref_null, ref_is_null, ref_eq, ref_as_non_null, ref_func, br_on_null, br_on_non_null, Cast, ref_test, ref_cast, br_on_cast, br_on_cast_fail}
-use Rattle.wasm_operators.specs.Instructions.{Instruction, control, legacy, call, parametric, variable, table, access, memory, constant, numeric, saturating, reference, cast, conversion, structure, array, vector, atomic}
+use Rattle.wasm_operators.specs.Instructions.{Instruction, control, legacy, call, parametric, variable, table, access, memory, constant, numeric, saturating, reference, cast, conversion, structure, array, vector, atomic, shared}
 use Rattle.wasm_operators.specs.declared.control.Catch.{Catch}
 
 module _ {R S : Type 0} (f : R → S) where
@@ -81,3 +81,4 @@ module _ {R S : Type 0} (f : R → S) where
   map_instruction (array op) = array op
   map_instruction (vector op i) = vector op i
   map_instruction (atomic op i) = atomic op i
+  map_instruction (shared op i) = shared op i

@@ -27,3 +27,4 @@ operator_of (operator.Struct op) = syntax.structure op
 operator_of (operator.Array op) = syntax.array op
 operator_of (operator.Vector op values) = syntax.vector op values
 operator_of (operator.Atomic op values) = syntax.atomic op values
+operator_of (operator.Shared op values) = syntax.shared op values

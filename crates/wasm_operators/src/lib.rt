@@ -1,6 +1,7 @@
 //! Operators of WebAssembly and their reading.
 #![tactic(auto)]
 
+mod accesses;
 mod control;
 mod expressions;
 mod frequent;
@@ -11,6 +12,7 @@ mod lists;
 mod operators;
 mod references;
 
+pub use accesses::{AccessValues, Ordering, read_access_values};
 pub use control::{
     BlockType, BrTable, Catch, ControlOperator, FrameKind, ParametricOperator, TryTable,
     read_block_type,
@@ -32,7 +34,10 @@ pub mod operators_atomic {
     pub use wasm_operators_atomic::operators_vector::{
         Alignment, Form, Immediates, Operands, ValueType, VectorOperator, vector_form,
     };
-    pub use wasm_operators_atomic::{AtomicOperator, atomic_form};
+    pub use wasm_operators_atomic::{
+        Access, AtomicOperator, SharedAtomicOperator, SharedForm, atomic_form, shared_code,
+        shared_form,
+    };
 }
 
 /// Passed on from `wasm_operators_plain`.

@@ -4,18 +4,21 @@ ghost use Rattle.std.specs.Prelude.{◌≡◌, ◌≤◌, ◌<◌, ◌+◌, Some
 ghost use Rattle.wasm_operators_plain.specs.WasmReaders.WasmReadersBytes.Reader.{SameInput, position_in, original, rest, RefusedFrom};
 ghost use Rattle.wasm_operators_plain.specs.WasmReaders.Written.{written};
 ghost use Rattle.wasm_operators_plain.specs.Refusals.{RefusedBetween};
+ghost use Rattle.wasm_operators_plain.specs.WasmReadersTypes.WasmReadersValues.declared.indices.UnpackedIndex.{UnpackedIndex};
 ghost use Rattle.wasm_operators.specs.Control.{control_from};
 ghost use Rattle.wasm_operators.specs.Legacy.{legacy_from};
-ghost use Rattle.wasm_operators.specs.Instructions.{control, legacy, of_family, aggregate_from, bulk_from, vectors_from, atomics_from, prefixed_from, plain_from, instruction_at};
+ghost use Rattle.wasm_operators.specs.Instructions.{control, legacy, of_family, aggregate_from, bulk_from, vectors_from, atomics_from, prefixed_from, plain_from, instruction_at, with_access};
+ghost use Rattle.wasm_operators_atomic.specs.SharedCodes.{shared_operator_from};
 ghost use Rattle.wasm_operators.specs.SeenOperators.{operator_of};
 
+use crate::accesses::{AccessValues, read_access_values};
 use crate::control::{ControlOperator, ParametricOperator, read_control, read_parametric};
 use crate::frequent::next_frequent;
 use crate::immediates::{ImmediateValues, read_immediates};
 use crate::legacy::{LegacyOperator, read_legacy};
 use crate::references::{CastOperator, ReferenceOperator, read_cast, read_reference};
 use wasm_operators_atomic::operators_vector::{self, VectorOperator, vector_form};
-use wasm_operators_atomic::{AtomicOperator, atomic_form};
+use wasm_operators_atomic::{AtomicOperator, SharedAtomicOperator, atomic_form, shared_form};
 use wasm_operators_plain::readers::BinaryReader;
 use wasm_operators_plain::readers_errors::Refusal;
 use wasm_operators_plain::{
@@ -51,6 +54,8 @@ pub enum Operator<'a> {
     /// An operator on vectors other than the constant.
     Vector(VectorOperator, ImmediateValues),
     Atomic(AtomicOperator, ImmediateValues),
+    /// An atomic access to a global, a table, a structure or an array, or `pause`.
+    Shared(SharedAtomicOperator, AccessValues),
 }
 
 /// The operator of this code behind the prefix `0xfb`, which stood at this offset.
@@ -135,6 +140,27 @@ fn read_on_vectors<'a>(
     }
 }
 
+/// The access of this code behind the prefix `0xfe`, which stood at this offset.
+fn read_shared<'a>(
+    reader: &mut BinaryReader<'a>,
+    code: u32,
+    offset: u64,
+) -> Result<Operator<'a>, Refusal>
+    requires { offset ≤ original reader.old + position_in reader.old }
+    ensures same { SameInput reader.old reader.new }
+    ensures onward { position_in reader.old ≤ position_in reader.new }
+    ensures refusal { IfErr result (RefusedBetween offset reader.old) }
+    ensures ok { IfOk result (λ op. with_access {R = UnpackedIndex} (rest reader.old)
+        (shared_operator_from code) ≡ Some (operator_of op, rest reader.new)) }
+    ensures err { OnErr result (with_access {R = UnpackedIndex} (rest reader.old)
+        (shared_operator_from code) ≡ None) }
+{
+    match wasm_operators_atomic::shared_operator_from_code(code) {
+        Some(op) => Ok(Operator::Shared(op, read_access_values(reader, shared_form(op))?)),
+        None => Err(unknown_prefixed_opcode(0xfe, code, offset)),
+    }
+}
+
 /// The operator of this code behind the prefix `0xfe`, which stood at this offset.
 #[tactic(auto, unfolding(crate::specs::Instructions::atomics_from))]
 fn read_atomic<'a>(
@@ -155,6 +181,9 @@ fn read_atomic<'a>(
             Some(op) => Ok(Operator::Conversion(op)),
             None => Err(unknown_prefixed_opcode(0xfe, code, offset)),
         };
+    }
+    if code == 4 || code >= 0x4f {
+        return read_shared(reader, code, offset);
     }
     match wasm_operators_atomic::operator_from_code(code) {
         Some(op) => Ok(Operator::Atomic(op, read_immediates(reader, atomic_form(op), offset)?)),

@@ -1,3 +1,5 @@
 pub use Rattle.wasm_operators_vector.specs as WasmOperatorsVector
 pub mod Codes
 pub mod Forms
+pub mod SharedCodes
+pub mod SharedForms

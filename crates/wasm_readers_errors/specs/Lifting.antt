@@ -1,7 +1,7 @@
 -- Which proposal would lift the refusal of an operator, and which one an operator of constant expressions needs.
 use Rattle.std.specs.Prelude.{Option, Some, None}
 use Rattle.wasm_readers_features.specs.declared.features.WasmFeatures.{WasmFeatures}
-use Rattle.wasm_readers_features.specs.declared.features.TheConstants.WasmFeatures.{FLOATS, SIMD, MULTI_VALUE, REFERENCE_TYPES, BULK_MEMORY, EXCEPTIONS, FUNCTION_REFERENCES, GC, SHARED_EVERYTHING_THREADS, CUSTOM_DESCRIPTORS, LEGACY_EXCEPTIONS, EXTENDED_CONST, THREADS, VECTOR_OPERATORS, ATOMIC_OPERATORS, GC_TYPES, STACK_SWITCHING}
+use Rattle.wasm_readers_features.specs.declared.features.TheConstants.WasmFeatures.{FLOATS, SIMD, MULTI_VALUE, REFERENCE_TYPES, BULK_MEMORY, EXCEPTIONS, FUNCTION_REFERENCES, GC, SHARED_EVERYTHING_THREADS, CUSTOM_DESCRIPTORS, LEGACY_EXCEPTIONS, EXTENDED_CONST, THREADS, VECTOR_OPERATORS, ATOMIC_OPERATORS, GC_TYPES, STACK_SWITCHING, SHARED_ATOMIC_OPERATORS}
 use Rattle.wasm_readers_errors.specs.declared.operator_rules.OperatorRule.{OperatorRule}
 use Rattle.wasm_readers_errors.specs.declared.operator_rules.OperatorRule.TheVariants as rule
 use Rattle.wasm_readers_errors.specs.declared.operator_rules.GatedConstant.{GatedConstant}
@@ -41,6 +41,7 @@ lifting rule.VectorOperators = Some VECTOR_OPERATORS
 lifting rule.AtomicOperators = Some ATOMIC_OPERATORS
 lifting rule.Threads = Some THREADS
 lifting rule.LegacyExceptions = Some LEGACY_EXCEPTIONS
+lifting rule.SharedAtomicOperators = Some SHARED_ATOMIC_OPERATORS
 lifting _ = None
 
 -- The proposal that this operator of constant expressions needs.

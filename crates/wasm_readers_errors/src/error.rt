@@ -106,6 +106,8 @@ pub enum Malformed {
     CastFlags,
     /// The kind of a catch clause is none.
     CatchKind,
+    /// The ordering of an atomic access, which is none.
+    Ordering(u32),
 }
 
 impl Malformed {
@@ -125,6 +127,10 @@ impl Malformed {
             Malformed::PrefixedOpcode(prefix, code) => write!(
                 f,
                 "illegal opcode {prefix:#04x} {code}"
+            ),
+            Malformed::Ordering(ordering) => write!(
+                f,
+                "invalid atomic consistency ordering {ordering}"
             ),
             other => f.write_str(other.text()),
         }
@@ -163,6 +169,7 @@ impl Malformed {
             Malformed::Alignment => "malformed memop alignment: alignment too large",
             Malformed::CastFlags => "malformed cast flags",
             Malformed::CatchKind => "invalid leading byte for a catch clause",
+            Malformed::Ordering(_) => "invalid atomic consistency ordering",
         }
     }
 }

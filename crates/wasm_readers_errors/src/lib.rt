@@ -1,6 +1,7 @@
 //! Why bytes or a module are refused.
 #![tactic(auto)]
 
+mod atomic_rules;
 pub mod error;
 pub mod item_rules;
 pub mod operator_rules;

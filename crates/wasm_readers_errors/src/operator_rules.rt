@@ -3,6 +3,7 @@
 ghost use Rattle.std.specs.Prelude.{◌≡◌};
 ghost use Rattle.wasm_readers_errors.specs.Lifting.{lifting, needed_by};
 
+use crate::atomic_rules::{write_atomic_global, write_atomic_type};
 use crate::type_rules::ValueTypeRule;
 use std::fmt;
 use wasm_readers_features::WasmFeatures;
@@ -173,6 +174,12 @@ pub enum OperatorRule {
     RethrowLabel,
     /// With `CRATE_LIMITS` a `try_table` has at most 10,000 catch clauses.
     CatchCount,
+    /// The operator of this number behind the prefix `0xfe` needs `SHARED_ATOMIC_OPERATORS`.
+    SharedAtomicOperators,
+    /// A global that the atomic access of this number can't write.
+    AtomicGlobal,
+    /// What the atomic access of this number reaches has a type that it doesn't allow.
+    AtomicType,
 }
 
 /// The items of a module, and of a function, that an operator names by an index.
@@ -224,6 +231,7 @@ impl OperatorRule {
             OperatorRule::AtomicOperators => Some(WasmFeatures::ATOMIC_OPERATORS),
             OperatorRule::Threads => Some(WasmFeatures::THREADS),
             OperatorRule::LegacyExceptions => Some(WasmFeatures::LEGACY_EXCEPTIONS),
+            OperatorRule::SharedAtomicOperators => Some(WasmFeatures::SHARED_ATOMIC_OPERATORS),
             _ => None,
         }
     }
@@ -329,6 +337,9 @@ impl OperatorRule {
             OperatorRule::DelegateOutsideTry => "delegate found outside of a `try` block",
             OperatorRule::RethrowLabel => "invalid rethrow label: target was not a `catch` block",
             OperatorRule::CatchCount => "catches size is out of bounds",
+            OperatorRule::SharedAtomicOperators => "illegal opcode",
+            OperatorRule::AtomicGlobal => "global is immutable",
+            OperatorRule::AtomicType => "invalid type",
             _ => "invalid operator",
         }
     }
@@ -364,6 +375,9 @@ impl OperatorRule {
             OperatorRule::NewDefaultDescOfUndescribed => {
                 write_described(f, "struct.new_default_desc", number)
             }
+            OperatorRule::SharedAtomicOperators => write!(f, "{text} 0xfe {number}"),
+            OperatorRule::AtomicGlobal => write_atomic_global(f, number),
+            OperatorRule::AtomicType => write_atomic_type(f, number),
             _ => f.write_str(text),
         }
     }

@@ -76,3 +76,6 @@ legacy_exceptions_on = has_flag 2097152
 -- the limits of the Rust crate's readers, which are no proposal
 abbrev pub crate_limits_on : WasmFeatures → Bool
 crate_limits_on = has_flag 4194304
+
+abbrev pub shared_atomic_operators_on : WasmFeatures → Bool
+shared_atomic_operators_on = has_flag 67108864

@@ -2,7 +2,7 @@
 //! each flag; and `STANDARD`, the set that is the default.
 
 ghost use Rattle.std.specs.Prelude.{⊤, ◌≡◌, [], ◌∷◌, codes};
-ghost use Rattle.wasm_readers_features.specs.On.{mutable_global_on, reference_types_on, multi_value_on, bulk_memory_on, simd_on, threads_on, shared_everything_threads_on, floats_on, multi_memory_on, exceptions_on, memory64_on, extended_const_on, function_references_on, gc_on, gc_types_on, custom_page_sizes_on, custom_descriptors_on, stack_switching_on, component_model_on, vector_operators_on, atomic_operators_on, legacy_exceptions_on, crate_limits_on};
+ghost use Rattle.wasm_readers_features.specs.On.{mutable_global_on, reference_types_on, multi_value_on, bulk_memory_on, simd_on, threads_on, shared_everything_threads_on, floats_on, multi_memory_on, exceptions_on, memory64_on, extended_const_on, function_references_on, gc_on, gc_types_on, custom_page_sizes_on, custom_descriptors_on, stack_switching_on, component_model_on, vector_operators_on, atomic_operators_on, legacy_exceptions_on, crate_limits_on, shared_atomic_operators_on};
 
 use bitflags::{Flag, Flags, bitflag_items};
 
@@ -34,9 +34,11 @@ use bitflags::{Flag, Flags, bitflag_items};
 ///   memories.
 /// - `LEGACY_EXCEPTIONS`: `try`, `catch`, `catch_all`, `rethrow` and `delegate`, by which exceptions
 ///   were handled before references to them. They need `EXCEPTIONS` too.
+/// - `SHARED_ATOMIC_OPERATORS`: atomic accesses to globals, tables, structures and arrays, and
+///   `pause`. They need `SHARED_EVERYTHING_THREADS` too, which alone allows what is shared.
 ///
-/// The last three have to be asked for, and are in no set but `all()`; the first two of these are
-/// no flags of the Rust crate.
+/// The last four have to be asked for, and are in no set but `all()`. `VECTOR_OPERATORS`,
+/// `ATOMIC_OPERATORS` and `SHARED_ATOMIC_OPERATORS` are no flags of the Rust crate.
 ///
 /// - `CRATE_LIMITS`: the limits of the Rust crate's readers: at most 1,000 parameters and 1,000
 ///   results of a function type, 10,000 fields of a structure type, 10,000 catch clauses of a
@@ -74,14 +76,15 @@ bitflag_items! {
         const ATOMIC_OPERATORS = 1048576;
         const LEGACY_EXCEPTIONS = 2097152;
         const CRATE_LIMITS = 4194304;
+        const SHARED_ATOMIC_OPERATORS = 67108864;
     }
 }
 
 impl WasmFeatures {
     /// All but `SHARED_EVERYTHING_THREADS`, `CUSTOM_DESCRIPTORS`, `STACK_SWITCHING`,
     /// `CUSTOM_PAGE_SIZES`, `COMPONENT_MODEL`, `VECTOR_OPERATORS`, `ATOMIC_OPERATORS`,
-    /// `LEGACY_EXCEPTIONS` and `CRATE_LIMITS`. So it lacks the standard's operators on vectors, and has
-    /// shared memories, which the standard hasn't.
+    /// `LEGACY_EXCEPTIONS`, `SHARED_ATOMIC_OPERATORS` and `CRATE_LIMITS`. So it lacks the standard's
+    /// operators on vectors, and has shared memories, which the standard hasn't.
     pub const STANDARD: WasmFeatures = WasmFeatures(32703);
 
     /// No proposal.
@@ -92,11 +95,11 @@ impl WasmFeatures {
     }
 
     /// Every proposal, and so not `CRATE_LIMITS`, which takes away.
-    pub const ALL: WasmFeatures = WasmFeatures(4194303);
+    pub const ALL: WasmFeatures = WasmFeatures(71303167);
 
     /// Every proposal: [`ALL`](WasmFeatures::ALL), and so not `CRATE_LIMITS`.
     pub fn all() -> WasmFeatures
-        ensures { result.0 ≡ 4194303 }
+        ensures { result.0 ≡ 71303167 }
     {
         WasmFeatures::ALL
     }
@@ -263,6 +266,14 @@ impl WasmFeatures {
     {
         self.contains(WasmFeatures::CRATE_LIMITS)
     }
+
+    /// Whether `SHARED_ATOMIC_OPERATORS` is on: atomic accesses to globals, tables, structures and
+    /// arrays, and `pause`, which need `SHARED_EVERYTHING_THREADS` too.
+    pub fn shared_atomic_operators(&self) -> bool
+        ensures { result ≡ shared_atomic_operators_on self.now }
+    {
+        self.contains(WasmFeatures::SHARED_ATOMIC_OPERATORS)
+    }
 }
 
 impl Flags for WasmFeatures {
@@ -279,7 +290,7 @@ impl Flags for WasmFeatures {
         ∷ (codes "CUSTOM_DESCRIPTORS", 65536) ∷ (codes "STACK_SWITCHING", 131072)
         ∷ (codes "COMPONENT_MODEL", 262144) ∷ (codes "VECTOR_OPERATORS", 524288)
         ∷ (codes "ATOMIC_OPERATORS", 1048576) ∷ (codes "LEGACY_EXCEPTIONS", 2097152)
-        ∷ (codes "CRATE_LIMITS", 4194304) ∷ [] };
+        ∷ (codes "CRATE_LIMITS", 4194304) ∷ (codes "SHARED_ATOMIC_OPERATORS", 67108864) ∷ [] };
 
     ghost set_of = { λ p. p.0 };
 

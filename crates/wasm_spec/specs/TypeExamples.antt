@@ -33,6 +33,7 @@ features b = record {
   atomic_operators = b;
   legacy_exceptions = b;
   crate_limits = false;
+  shared_atomic_operators = b;
 }
 
 module _ {R : Type 0} where

@@ -200,3 +200,4 @@ view (instruction.structure op) = is_plain (struct-simple op)
 view (instruction.array op) = is_plain (array-simple op)
 view (instruction.vector op values) = is_plain refl
 view (instruction.atomic op values) = is_plain refl
+view (instruction.shared op values) = is_plain refl

@@ -28,4 +28,5 @@ features_of flags = record {
   atomic_operators = has_flag 1048576 flags;
   legacy_exceptions = has_flag 2097152 flags;
   crate_limits = has_flag 4194304 flags;
+  shared_atomic_operators = has_flag 67108864 flags;
 }

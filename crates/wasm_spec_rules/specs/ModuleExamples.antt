@@ -41,6 +41,7 @@ first_version = record {
   atomic_operators = false;
   legacy_exceptions = false;
   crate_limits = false;
+  shared_atomic_operators = false;
 }
 
 -- a table of so many entries

@@ -103,6 +103,7 @@ are_for (instruction.structure op) = tt
 are_for (instruction.array op) = tt
 are_for (instruction.vector op values) = tt
 are_for (instruction.atomic op values) = tt
+are_for (instruction.shared op values) = tt
 
 -- the number of a label is that of its block
 map-gives : {A B : Type 0} (f : A → B) (o : Option A) (b : B) → option_map f o ≡ Some b → (a : A) × (o ≡ Some a) × (f a ≡ b)

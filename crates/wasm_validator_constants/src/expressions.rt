@@ -18,6 +18,7 @@ use crate::operators::{gated_constant, is_constant, reads_constants};
 use bitflags::Flags;
 use std::alloc::{AllocError, Allocator};
 use wasm_operator_validator::OperatorValidator;
+use wasm_operators::operators_atomic::shared_code;
 use wasm_operators::operators_plain::VariableOperator;
 use wasm_operators::{Operator, ReferenceOperator, read_operator};
 use wasm_readers::BinaryReader;
@@ -26,8 +27,8 @@ use wasm_validator_references::NotesFunctions;
 use wasm_validator_resources::WasmModuleResources;
 
 /// The rule against an operator that no constant expression has, and its number. Without the feature
-/// that serves them, the operators on vectors, the atomic ones and those of legacy exceptions are
-/// refused as they are in a body.
+/// that serves them, the operators on vectors, the atomic ones, those of legacy exceptions and atomic
+/// accesses to globals, tables, structures and arrays are refused as they are in a body.
 fn rule_against<'a>(features: WasmFeatures, op: &Operator<'a>) -> (OperatorRule, u32) {
     match *op {
         Operator::Vector(_, _) if !features.contains(WasmFeatures::VECTOR_OPERATORS) => {
@@ -35,6 +36,9 @@ fn rule_against<'a>(features: WasmFeatures, op: &Operator<'a>) -> (OperatorRule,
         }
         Operator::Atomic(_, _) if !features.contains(WasmFeatures::ATOMIC_OPERATORS) => {
             (OperatorRule::AtomicOperators, 0)
+        }
+        Operator::Shared(op, _) if !features.contains(WasmFeatures::SHARED_ATOMIC_OPERATORS) => {
+            (OperatorRule::SharedAtomicOperators, shared_code(op))
         }
         Operator::Legacy(op) if !features.contains(WasmFeatures::LEGACY_EXCEPTIONS) => {
             (OperatorRule::LegacyExceptions, op.opcode() as u32)

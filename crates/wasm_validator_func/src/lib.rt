@@ -22,13 +22,15 @@ pub use next_operator::read_operator;
 
 /// Passed on from `wasm_operators`.
 pub mod operators {
-    pub use wasm_operators::operators_atomic::{AtomicOperator, VectorOperator};
+    pub use wasm_operators::operators_atomic::{
+        AtomicOperator, SharedAtomicOperator, VectorOperator,
+    };
     pub use wasm_operators::operators_plain::NumberType;
     pub use wasm_operators::{
-        ArrayOperator, BlockType, BrTable, BulkMemoryOperator, CallOperator, CastOperator, Catch,
+        AccessValues, ArrayOperator, BlockType, BrTable, BulkMemoryOperator, CallOperator, CastOperator, Catch,
         ConstantOperator, ControlOperator, ConversionOperator, FrameKind, Ieee32, Ieee64,
         Immediate, ImmediateValues, LegacyOperator, Listed, ListedItems, MemArg, MemoryOperator,
-        NumericOperator, Operator, ParametricOperator, ReferenceOperator, SaturatingOperator,
+        NumericOperator, Operator, ParametricOperator, Ordering, ReferenceOperator, SaturatingOperator,
         StructOperator, TableOperator, TryTable, V128, VariableOperator, max_align,
         read_block_type, read_expression, read_memarg,
     };

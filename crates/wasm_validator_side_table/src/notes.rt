@@ -169,7 +169,8 @@ impl<A: Allocator> SideTable<A> {
             | Operator::Struct(_)
             | Operator::Array(_)
             | Operator::Vector(_, _)
-            | Operator::Atomic(_, _) => Ok(()),
+            | Operator::Atomic(_, _)
+            | Operator::Shared(_, _) => Ok(()),
         }
     }
 
@@ -243,7 +244,8 @@ impl<A: Allocator> SideTable<A> {
             | Operator::Struct(_)
             | Operator::Array(_)
             | Operator::Vector(_, _)
-            | Operator::Atomic(_, _) => Ok(()),
+            | Operator::Atomic(_, _)
+            | Operator::Shared(_, _) => Ok(()),
         }
     }
 

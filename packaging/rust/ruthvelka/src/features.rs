@@ -17,7 +17,7 @@ impl WasmFeatures {
     pub const SIMD: WasmFeatures = WasmFeatures(1 << 4);
     /// shared memories
     pub const THREADS: WasmFeatures = WasmFeatures(1 << 5);
-    /// types, tables and globals that are shared between threads; see "Left out"
+    /// types, tables and globals that are shared between threads
     pub const SHARED_EVERYTHING_THREADS: WasmFeatures = WasmFeatures(1 << 6);
     /// floating-point types
     pub const FLOATS: WasmFeatures = WasmFeatures(1 << 7);
@@ -51,6 +51,8 @@ impl WasmFeatures {
     pub const LEGACY_EXCEPTIONS: WasmFeatures = WasmFeatures(1 << 21);
     /// no proposal: the limits of the Rust crate's readers; see "Gates"
     pub const CRATE_LIMITS: WasmFeatures = WasmFeatures(1 << 22);
+    /// atomic accesses to globals, tables, structures, arrays; they need SHARED_EVERYTHING_THREADS
+    pub const SHARED_ATOMIC_OPERATORS: WasmFeatures = WasmFeatures(1 << 26);
     /// What is on by default: the Core Specification 3.0 without its operators on vectors, but with `v128.const`, and shared memories.
     pub const STANDARD: WasmFeatures = WasmFeatures(
         WasmFeatures::MUTABLE_GLOBAL.0
@@ -91,12 +93,13 @@ impl WasmFeatures {
             | WasmFeatures::COMPONENT_MODEL.0
             | WasmFeatures::VECTOR_OPERATORS.0
             | WasmFeatures::ATOMIC_OPERATORS.0
-            | WasmFeatures::LEGACY_EXCEPTIONS.0,
+            | WasmFeatures::LEGACY_EXCEPTIONS.0
+            | WasmFeatures::SHARED_ATOMIC_OPERATORS.0,
     );
 }
 
 /// Each feature by its name.
-pub(crate) const NAMES: [(&str, WasmFeatures); 23] = [
+pub(crate) const NAMES: [(&str, WasmFeatures); 24] = [
     ("MUTABLE_GLOBAL", WasmFeatures::MUTABLE_GLOBAL),
     ("REFERENCE_TYPES", WasmFeatures::REFERENCE_TYPES),
     ("MULTI_VALUE", WasmFeatures::MULTI_VALUE),
@@ -120,4 +123,5 @@ pub(crate) const NAMES: [(&str, WasmFeatures); 23] = [
     ("ATOMIC_OPERATORS", WasmFeatures::ATOMIC_OPERATORS),
     ("LEGACY_EXCEPTIONS", WasmFeatures::LEGACY_EXCEPTIONS),
     ("CRATE_LIMITS", WasmFeatures::CRATE_LIMITS),
+    ("SHARED_ATOMIC_OPERATORS", WasmFeatures::SHARED_ATOMIC_OPERATORS),
 ];
