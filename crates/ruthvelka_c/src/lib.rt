@@ -19,6 +19,7 @@ mod lists;
 mod names;
 mod queries;
 mod report;
+mod side_tables;
 mod types;
 
 use answers::{answer_alone, answer_list, write_ids};
