@@ -63,6 +63,15 @@ val_same C f64 = refl
 val_same C v128 = refl
 val_same C (reference r) = rw (null_same r.nullable) (heap_same C r.heap)
 
+-- types of the same meaning, and two like others that match
+pub one_type : (C : Context UnpackedIndex) (v w : Val UnpackedIndex) → v ≡ w → true ≡ matches_val (world C) v w
+one_type C v w e = rw e (sym (val_same C w))
+
+pub two_types : (C : Context UnpackedIndex) (v w x y : Val UnpackedIndex) → v ≡ x → w ≡ y → matches_val (world C) x y ≡ true → true ≡ matches_val (world C) v w
+two_types C v w x y e f h = rw (e, f) (sym h)
+
+pub ruleset same_types = (one_type, two_types)
+
 pub known_matches : (C : Context UnpackedIndex) (o : Operand UnpackedIndex) (v : Val UnpackedIndex) → o ≡ known v → true ≡ matches_operand (world C) o v
 known_matches C o v e = rw e (sym (val_same C v))
 

@@ -9,7 +9,7 @@ use Rattle.wasm_validator_resources.specs.WasmReadersTypes.WasmReadersValues.See
 use Rattle.wasm_validator_resources.specs.WasmReadersTypes.WasmReadersValues.declared.indices.UnpackedIndex.{UnpackedIndex}
 use Rattle.wasm_validator_resources.specs.WasmReadersTypes.WasmReadersValues.declared.values.ValType.{ValType}
 use Rattle.wasm_operator_stacks.specs.WasmOperatorSteps.Machine.{State, bottom, pop_any, pop_val, pop_vals}
-use Rattle.wasm_operator_checks.proofs.Looking.{from_on, one_popped}
+use Rattle.wasm_operator_checks.proofs.Looking.{bottom_match, from_on, one_popped}
 
 -- one type more from the end, that matches or doesn't
 last_types : (vs : List ValType) (n : ℕ) (v : ValType) (x : Val UnpackedIndex) → n < length vs → x ≡ val_of (get_or vs n v) → map val_of (drop n vs) ≡ x ∷ map val_of (drop (n + 1) vs)
@@ -67,4 +67,4 @@ last_taken W vs n s t e b = all_taken W vs n s t (ap (λ ws. pop_vals W (map val
 
 pub ruleset last_looks = (last_taken)
 
-pub ruleset list_checks = (next_popped, next_not_popped, all_taken)
+pub ruleset list_checks = (next_popped, next_not_popped, all_taken, bottom_match)

@@ -12,6 +12,10 @@ use Rattle.wasm_operator_stacks.specs.WasmOperatorSteps.Machine.{Operand, State,
 use Rattle.wasm_operator_stacks.specs.SeenOperands.{operand_of}
 use Rattle.wasm_operator_stacks.specs.SeenBlocks.{frames_seen}
 use Rattle.wasm_operator_stacks.specs.Seen.{below}
+use Rattle.wasm_operator_stacks.specs.TypeWords.{val_at}
+use Rattle.wasm_operator_stacks.specs.Words.{operand_at}
+use Rattle.wasm_operator_stacks.specs.SeenTypeWords.{val_in}
+use Rattle.wasm_operator_stacks.specs.declared.type_word.TypeWord.{TypeWord}
 use Rattle.wasm_operator_stacks.specs.declared.word.Word.{Word}
 use Rattle.wasm_operator_stacks.specs.declared.stacks.Frame.{Frame}
 
@@ -84,3 +88,12 @@ pub other_popped : (W : World UnpackedIndex) (v : Val UnpackedIndex) (s t : Stat
 other_popped W v s t o e h = rw (e, ← h) refl
 
 pub ruleset checks = (nothing_popped, one_popped, other_popped)
+
+-- an operand and a type of the same numbers as two that match
+pub same_match : (W : World UnpackedIndex) (o w : Word) (t u : TypeWord) → o.bits ≡ w.bits → t.bits ≡ u.bits → matches_operand W (operand_of w) (val_in u) ≡ true → true ≡ matches_operand W (operand_of o) (val_in t)
+same_match W o w t u a b e = sym e ∙ ap (λ n. matches_operand W (operand_at n) (val_at u.bits)) (sym a) ∙ ap (λ n. matches_operand W (operand_at o.bits) (val_at n)) (sym b)
+
+pub bottom_match : (W : World UnpackedIndex) (o : Operand UnpackedIndex) (v : Val UnpackedIndex) → o ≡ bottom → matches_operand W o v ≡ true
+bottom_match W o v e = rw e refl
+
+pub ruleset matches_again = (same_match)

@@ -3,7 +3,8 @@
 ghost use Rattle.std.specs.Prelude.{◌≡◌, ◌≤◌, Some, true, length, map, IfSome};
 ghost use Rattle.wasm_validator_resources.specs.WasmReadersTypes.WasmReadersValues.SeenValues.{val_of};
 ghost use Rattle.wasm_operator_stacks.specs.SeenTypeWords.{val_in};
-ghost use Rattle.wasm_operator_stacks.specs.WasmOperatorSteps.Machine.{bottom, pop_any, pop_val, pop_vals, push_vals};
+ghost use Rattle.wasm_operator_stacks.specs.WasmOperatorSteps.Machine.{bottom, matches_operand, pop_any, pop_val, pop_vals, push_vals};
+ghost use Rattle.wasm_operator_stacks.specs.SeenOperands.{operand_of};
 ghost use Rattle.wasm_validator_resources.specs.Answers.{world};
 ghost use Rattle.wasm_operator_stacks.specs.Seen.{state_of, below};
 ghost use Rattle.wasm_operator_checks.specs.Steps.{Looked, Checked};
@@ -12,6 +13,7 @@ use crate::faults::OperatorFault;
 use crate::known::has_known;
 use crate::matching::matches;
 use std::alloc::Allocator;
+use wasm_operator_stacks::operators_plain::NumberType;
 use wasm_operator_stacks::{Stacks, TypeWord, Word};
 use wasm_validator_resources::WasmModuleResources;
 use wasm_validator_resources::readers_errors::OperatorRule;
@@ -157,6 +159,70 @@ fn look_last<A: Allocator, T: WasmModuleResources>(
     Some(all)
 }
 
+/// An operand and a type that it matches.
+#[derive(Clone, Copy)]
+struct Matched {
+    operand: Word,
+    ty: TypeWord,
+}
+
+/// Whether an operand is of a type. The two that matched last aren't looked up in the list of types
+/// again.
+#[inline(always)]
+#[tactic(auto, using(crate::proofs::Looking::matches_again))]
+fn matches_next<T: WasmModuleResources>(
+    resources: &T,
+    operand: Word,
+    ty: TypeWord,
+    last: &mut Matched,
+) -> bool
+    requires { matches_operand (world (T.context resources.now)) (operand_of last.old.operand)
+        (val_in last.old.ty) ≡ true }
+    ensures decided { result ≡ matches_operand (world (T.context resources.now))
+        (operand_of operand) (val_in ty) }
+    ensures kept { matches_operand (world (T.context resources.now)) (operand_of last.new.operand)
+        (val_in last.new.ty) ≡ true }
+{
+    if operand.bits == last.operand.bits && ty.bits == last.ty.bits {
+        return true;
+    }
+    if matches(resources, operand, ty) {
+        *last = Matched { operand, ty };
+        return true;
+    }
+    false
+}
+
+/// As [`check_type`], for one of many types.
+#[inline(always)]
+#[tactic(auto, using(crate::proofs::Looking::checks))]
+fn check_next<A: Allocator, T: WasmModuleResources>(
+    stacks: &Stacks<A>,
+    resources: &T,
+    taken: usize,
+    ty: TypeWord,
+    last: &mut Matched,
+) -> Result<usize, OperatorFault>
+    requires within { taken ≤ length (state_of stacks.now).operands }
+    requires matched { matches_operand (world (T.context resources.now)) (operand_of last.old.operand)
+        (val_in last.old.ty) ≡ true }
+    ensures checked { Checked result (pop_val (world (T.context resources.now)) (val_in ty)
+        (below taken (state_of stacks.now))) (state_of stacks.now) }
+    ensures kept { matches_operand (world (T.context resources.now)) (operand_of last.new.operand)
+        (val_in last.new.ty) ≡ true }
+{
+    match look(stacks, taken) {
+        Some((operand, taken)) => {
+            if matches_next(resources, operand, ty, last) {
+                Ok(taken)
+            } else {
+                Err(OperatorFault::operand(ty, Some(operand)))
+            }
+        }
+        None => Err(OperatorFault::operand(ty, None)),
+    }
+}
+
 /// Whether operands of these types, the last one on top, are below so many that are taken already,
 /// and how many are taken with them.
 #[tactic(auto, using(crate::proofs::Listing::list_checks))]
@@ -178,15 +244,21 @@ pub fn check_many<A: Allocator, T: WasmModuleResources>(
     }
     let count = types.len();
     let mut taken = taken;
+    // an operand of any type matches each
+    let mut last = Matched {
+        operand: Word::bottom(),
+        ty: TypeWord::number(NumberType::I32),
+    };
     'checking: for i in 0..count {
         if is_all_taken(stacks, taken) {
             return Ok(taken);
         }
-        taken = check_type(
+        taken = check_next(
             stacks,
             resources,
             taken,
             TypeWord::new(types[count - 1 - i]),
+            &mut last,
         )?;
     }
     Ok(taken)
