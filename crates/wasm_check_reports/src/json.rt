@@ -1,6 +1,5 @@
 //! JSON objects, one on each line.
 
-use crate::function_names::name_of_function;
 use crate::items::{Item, Kind, SPACES, count_in, plural, singular, word_of};
 use crate::places::{Place, bytes_around, find_place, section_name};
 use crate::summary::Summary;
@@ -8,6 +7,7 @@ use bitflags::Flags;
 use serde_json::{Map, Value, put};
 use std::alloc::{AllocError, Global};
 use std::io;
+use wasm_parser_ranges::find_function_name;
 use wasm_validate_files::validator::{Error, TypesRef, WasmFeatures};
 use wasm_validate_files::{Answer, Input, bytes_of, count_exports, count_imports, hint_of};
 
@@ -129,7 +129,7 @@ fn put_error(
     put_number(members, alloc, "offset", error.offset())?;
     if let Some(function) = error.function() {
         put_number(members, alloc, "function", u64::from(function))?;
-        if let Some(name) = name_of_function(alloc, bytes, function) {
+        if let Ok(Some(name)) = find_function_name(alloc, bytes, function) {
             put_text(members, alloc, "function_name", name)?;
         }
     }

@@ -3,7 +3,6 @@
 //! how many ended in which way.
 #![tactic(auto)]
 
-mod function_names;
 mod imports;
 mod items;
 mod json;

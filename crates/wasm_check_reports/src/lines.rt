@@ -1,12 +1,12 @@
 //! Lines that a person reads.
 
-use crate::function_names::name_of_function;
 use crate::items::{Item, Kind, SPACES, count_in, plural, singular, word_of, write_items};
 use crate::json;
 use crate::places::{Place, bytes_around, find_place, section_name};
 use crate::settings::{Form, Settings};
 use bitflags::Flags;
 use std::alloc::{AllocError, Global};
+use wasm_parser_ranges::find_function_name;
 use wasm_validate_files::validator::{Error, TypesRef, WasmFeatures};
 use wasm_validate_files::{
     Answer, Input, Printable, bytes_of, count_exports, count_imports, hint_of,
@@ -121,7 +121,7 @@ fn write_error(
     write!(text, " at {offset} (0x{offset:x})")?;
     if let Some(function) = error.function() {
         write!(text, " in function {function}")?;
-        if let Some(name) = name_of_function(alloc, bytes_of(file), function) {
+        if let Ok(Some(name)) = find_function_name(alloc, bytes_of(file), function) {
             write!(text, " (named {name:?} by the module)")?;
         }
     }
