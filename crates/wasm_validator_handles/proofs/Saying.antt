@@ -113,7 +113,12 @@ all_decided (validate bytes (Ok r) ∷ cs) old new a may =
             record {
               modules = more.modules;
               answers = more.answers;
-              given = inr (record { refused = stopped r bytes (after_reset old) a.0 stops; stands = same; rest = more.given });
+              given = inr (record {
+                refused = stopped r bytes (after_reset old) a.0 stops;
+                alone = headline (r ∷ []) (bytes ∷ []) old a.0 (a.0, a.1.1, inr (stops, refl, refl)) may;
+                stands = same;
+                rest = more.given;
+              });
               decided = moved more.answers more.modules a.0 old (ap after_reset same ∙ twice old) more.decided;
             }
         | inr fails ↦

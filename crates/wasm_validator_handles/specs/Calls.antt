@@ -59,15 +59,17 @@ pub record IsUnanswered (bytes : List ℕ) (Rest : List (List ℕ) → List Modu
   pub none : answers ≡ []
   pub rest : Rest behind []
 
--- a module that is left out: it was refused, and the validator stands where it stood, behind a reset
-pub record IsLeftOut (answer : ModuleAnswer) (old next : Standing) (Rest : List (List ℕ) → List ModuleAnswer → Type 0) (modules : List (List ℕ)) (answers : List ModuleAnswer) : Type 0 where
+-- a module that is left out: it was refused, as a list of this module alone is, and the validator stands where it stood, behind a reset
+pub record IsLeftOut (bytes : List ℕ) (answer : ModuleAnswer) (old next : Standing) (Rest : List (List ℕ) → List ModuleAnswer → Type 0) (modules : List (List ℕ)) (answers : List ModuleAnswer) : Type 0 where
   pub refused : IsNoAcceptance answer
+  pub alone : Headline (features_of old.features) (bytes ∷ []) (answer ∷ []) (types_held old.stage)
   pub stands : next ≡ after_reset old
   pub rest : Rest modules answers
 
 -- Such a call adds its module to the list, with its answer if there is one, unless it is left out.
 abbrev pub Adds : Call → Standing → Standing → (List (List ℕ) → List ModuleAnswer → Type 0) → List (List ℕ) → List ModuleAnswer → Type 0
-Adds (validate bytes (Ok answer)) old next Rest modules answers = IsInFront bytes answer Rest modules answers ⊎ IsLeftOut answer old next Rest modules answers
+Adds (validate bytes (Ok answer)) old next Rest modules answers =
+    IsInFront bytes answer Rest modules answers ⊎ IsLeftOut bytes answer old next Rest modules answers
 Adds (validate bytes (Err why)) old next Rest modules answers = IsUnanswered bytes Rest modules answers
 Adds (reset result) old next Rest modules answers = Rest modules answers
 

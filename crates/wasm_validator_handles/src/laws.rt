@@ -6,8 +6,9 @@ ghost use Rattle.wasm_validator_handles.specs.Calls.{CallsSayOfAll};
 /// handle was given one after another, with resets between them or not, whatever it answered and
 /// however long it lived: what is accepted is a valid module, and what is refused isn't; equal types
 /// have one id, which keeps its data; types and value types match over ids as they do by the
-/// standard's rules. A module that was refused and left the validator where it stood counts as not
-/// given, and those that were given behind a failure as not looked at.
+/// standard's rules. A module that was refused and left the validator where it stood is left out: of
+/// it the same holds as of a list of one. Those that were given behind a failure count as not looked
+/// at.
 ///
 /// [`validate_list`]: wasm_validator::validate_list
 pub fn calls_say_of_all()
