@@ -45,6 +45,11 @@ class Header:
         self.all = [name for name, _, _ in self.features if name not in TAKES_AWAY]
 
 
+def alone(said):
+    """What is said of a feature, where the header's prose doesn't stand above."""
+    return said.replace('; see "Left out"', ", in part").replace('; see "Gates"', ", for hosts that take modules from strangers")
+
+
 def filled(names, between, first, width=150):
     """These names as lines, each behind the first with that indentation."""
     rows = textwrap.wrap(between.join(names), width, break_long_words=False)
@@ -56,7 +61,7 @@ def python_table(header):
     def union(its):
         return filled(its, " | ", "        | ").replace(" |\n", "\n")
 
-    rows = "".join(f"    {name} = 1 << {bit}  # {said}\n" for name, bit, said in header.features)
+    rows = "".join(f"    {name} = 1 << {bit}  # {alone(said)}\n" for name, bit, said in header.features)
     others = [it for it in header.all if it not in header.standard]
     return (
         '"""The features of include/ruthvelka.h. tools/write_packages.py of the repository writes this file."""\n'
@@ -72,7 +77,7 @@ def python_table(header):
 
 
 def rust_table(header):
-    rows = "".join(f"    /// {said}\n    pub const {name}: WasmFeatures = WasmFeatures(1 << {bit});\n" for name, bit, said in header.features)
+    rows = "".join(f"    /// {alone(said)}\n    pub const {name}: WasmFeatures = WasmFeatures(1 << {bit});\n" for name, bit, said in header.features)
     names = "".join(f'    ("{name}", WasmFeatures::{name}),\n' for name, _, _ in header.features)
 
     def union(its):
@@ -101,7 +106,7 @@ def go_name(name):
 
 
 def go_table(header):
-    rows = "".join(f"\t// {go_name(name)}: {said}.\n\t{go_name(name)} WasmFeatures = 1 << {bit}\n" for name, bit, said in header.features)
+    rows = "".join(f"\t// {go_name(name)}: {alone(said)}.\n\t{go_name(name)} WasmFeatures = 1 << {bit}\n" for name, bit, said in header.features)
 
     def union(its):
         return " |\n\t\t".join(go_name(it) for it in its)
@@ -138,7 +143,7 @@ def small(names):
 def man_block(header):
     rows = [".TP"]
     for name, _, said in header.features:
-        text = said.replace('; see "Left out"', ", in part")
+        text = alone(said)
         text = f"{text[0].upper()}{text[1:]}." if name not in header.standard else f"By default: {text}."
         rows += [f".B {name.lower()}", text, ".TP"]
     return "".join(f"{it}\n" for it in rows[:-1])

@@ -18,7 +18,7 @@ const (
 	SIMD WasmFeatures = 1 << 4
 	// Threads: shared memories.
 	Threads WasmFeatures = 1 << 5
-	// SharedEverythingThreads: types, tables and globals that are shared between threads; see "Left out".
+	// SharedEverythingThreads: types, tables and globals that are shared between threads, in part.
 	SharedEverythingThreads WasmFeatures = 1 << 6
 	// Floats: floating-point types.
 	Floats WasmFeatures = 1 << 7
@@ -38,9 +38,9 @@ const (
 	GCTypes WasmFeatures = 1 << 14
 	// CustomPageSizes: memories with a written page size.
 	CustomPageSizes WasmFeatures = 1 << 15
-	// CustomDescriptors: descriptor clauses, and exact references; see "Left out".
+	// CustomDescriptors: descriptor clauses, and exact references, in part.
 	CustomDescriptors WasmFeatures = 1 << 16
-	// StackSwitching: continuation types; see "Left out".
+	// StackSwitching: continuation types, in part.
 	StackSwitching WasmFeatures = 1 << 17
 	// ComponentModel: components, which are not validated.
 	ComponentModel WasmFeatures = 1 << 18
@@ -50,7 +50,7 @@ const (
 	AtomicOperators WasmFeatures = 1 << 20
 	// LegacyExceptions: try, catch, catch_all, rethrow and delegate; they need EXCEPTIONS too.
 	LegacyExceptions WasmFeatures = 1 << 21
-	// CrateLimits: no proposal: the limits of the Rust crate's readers; see "Gates".
+	// CrateLimits: no proposal: the limits of the Rust crate's readers, for hosts that take modules from strangers.
 	CrateLimits WasmFeatures = 1 << 22
 )
 

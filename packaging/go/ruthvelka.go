@@ -37,6 +37,23 @@ func nameOf(feature WasmFeatures) string {
 	return C.GoStringN(&name[0], C.int(length))
 }
 
+// String has the names of the proposals, as Feature takes them, with | between them. Of a bit that no proposal has it has the number.
+func (it WasmFeatures) String() string {
+	names := []string{}
+	for rest := it; rest != 0; rest &= rest - 1 {
+		feature := rest & -rest
+		if name := nameOf(feature); name != "" {
+			names = append(names, name)
+		} else {
+			names = append(names, fmt.Sprintf("%#x", uint64(feature)))
+		}
+	}
+	if len(names) == 0 {
+		return "0"
+	}
+	return strings.Join(names, " | ")
+}
+
 // ErrMemory says that memory was refused, and nothing of the bytes.
 var ErrMemory = errors.New("out of memory")
 
