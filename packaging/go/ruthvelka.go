@@ -1,3 +1,5 @@
+//go:build cgo && linux && amd64
+
 // Package ruthvelka validates WebAssembly modules, by a validator that is proved, in a library that this module contains.
 //
 // Each call gives what a valid module has and no error, or nil and an error: a *Refused where the bytes are no valid module, ErrMemory where memory
@@ -5,8 +7,8 @@
 package ruthvelka
 
 /*
-#cgo CFLAGS: -I${SRCDIR}/lib
-#cgo LDFLAGS: -L${SRCDIR}/lib -lruthvelka
+#cgo CFLAGS: -I${SRCDIR}
+#cgo LDFLAGS: -L${SRCDIR} -lruthvelka
 #include <ruthvelka.h>
 #include <stdlib.h>
 */
