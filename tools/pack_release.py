@@ -201,6 +201,7 @@ def documents(release):
     return [
         Entry("README.md", readme(release)), Entry("PROOF", release.proof), Entry("CHANGELOG.md", source("CHANGELOG.md")),
         Entry("wasm-check.schema.json", source("docs/wasm-check.schema.json")), Entry("LICENSE", source("LICENSE")),
+        *(Entry(f"examples/{it}/{file}", source(f"examples/{it}/{file}")) for it in ("c", "cpp") for file in sorted(os.listdir(f"{TOP}/examples/{it}"))),
         *(Entry(f"licenses/{it.path}", it.data) for it in release.licenses),
     ]
 
@@ -303,7 +304,7 @@ def wheel(release):
 
 
 def with_documents(release, folder):
-    """The documents that go with a package, below its folder."""
+    """The documents that go with a package of a language, below its folder."""
     return [Entry(f"{folder}{it.path}", it.data) for it in documents(release) if it.path in ("PROOF", "LICENSE") or it.path.startswith("licenses/")]
 
 
