@@ -96,8 +96,8 @@
    - of custom descriptors, ref.get_desc and the casts and branches by descriptors;
    - of shared-everything threads, the atomic accesses to globals, tables, structures and arrays;
    - the operators of wide arithmetic: i64.add128, i64.sub128, i64.mul_wide_s and i64.mul_wide_u;
-   - memory.discard. These are refused without a feature of their own, which RUTHVELKA_STANDARD
-     doesn't have:
+   - memory.discard.
+   These are refused without a feature of their own, which RUTHVELKA_STANDARD doesn't have:
    - the operators on vectors other than v128.const, without RUTHVELKA_VECTOR_OPERATORS;
    - the atomic operators on memories and atomic.fence, without RUTHVELKA_ATOMIC_OPERATORS;
    - try, catch, catch_all, rethrow and delegate, the operators of legacy exceptions, without

@@ -294,6 +294,17 @@ def try_library(room, wanted, unpacked):
     ran = room.run("gcc", "-std=c99", "c/gate.c", f"-I{unpacked}/include", f"{unpacked}/lib/libruthvelka.a", "-o", "c/static")
     report("C, static: a gate is built", problem(ran))
     wanted.compare_gate(room, "C, static", "c/static")
+    try_readme(room, moved)
+
+
+def try_readme(room, folder):
+    """The commands for C of the README, in a folder whose path has a space."""
+    found = re.search(r"(?s)\n## From C\n.*?```console\n(.*?)```", read(f"{folder}/README.md").decode())
+    lines = found[1].split("\n") if found else []
+    write(f"{folder}/module.wasm", HEAD + b"\1\6\1\x60\1\x7f\1\x7c")
+    ran = room.run("sh", "-ec", "\n".join(it[2:] for it in lines if it.startswith("$ ")), at=os.path.relpath(folder, room.folder))
+    said = "\n".join(it for it in lines if not it.startswith("$ "))
+    report("C: the commands of the README print what it says", problem(ran), differing(said, ran.stdout), "" if ": ok types 1 " in said else "no gate")
 
 
 def try_manual(room, unpacked):
@@ -458,6 +469,9 @@ def try_go(room, wanted, path):
     tests = len(re.findall(r"(?m)^--- PASS", ran.stdout))
     report("Go: its tests pass", problem(ran), "" if tests >= 20 else f"there are {tests}")
     report("Go: go vet finds nothing", problem(room.run("go", "vet", ".", at="go/ruthvelka-go")))
+    report("Go: it can be vendored", problem(room.run("sh", "-c", "go mod vendor && exec go build -o vendored .", at="go/mine")))
+    sum_ = hashlib.sha256(read(f"{folder}/libruthvelka.a")).hexdigest() if os.path.isfile(f"{folder}/libruthvelka.a") else "no library"
+    report("Go: it has the sum of its library", "" if f'LibrarySum = "{sum_}"\n' in read(f"{folder}/sum.go").decode() else sum_)
 
 
 # ------------------------------------------------------------------------------------------------- all of it

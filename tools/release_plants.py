@@ -102,6 +102,17 @@ def damage_debian(folder):
         subprocess.run(["dpkg-deb", "--root-owner-group", "-Zgzip", "-b", f"{room}/it", path], check=True, stdout=subprocess.DEVNULL)
 
 
+def without_eval(it, data):
+    """Takes what makes the path of pkg-config one word out of the README."""
+    return it, re.sub(rb'eval "(cc .*)"', rb"\1", data) if it.name.endswith("/README.md") else data
+
+
+def apart(it, data):
+    """Puts the library of the module for Go into a folder of its own, which holds no source."""
+    it.name = it.name.replace("/libruthvelka.a", "/lib/libruthvelka.a")
+    return it, data.replace(b"-L${SRCDIR} ", b"-L${SRCDIR}/lib ")
+
+
 # Each damaged release: what is done, which function tries it, and the check that has to fail.
 PLANTS = {
     "a stale SHA256SUMS": (append(GO), "sums", "SHA256SUMS has the sum of each file"),
@@ -138,6 +149,11 @@ PLANTS = {
         edit_tar(GO, "/features.go", b"SIMD WasmFeatures = 1 << 4", b"SIMD WasmFeatures = 1 << 3"), "go", "Go: its tests pass"),
     "a module that takes an unwritten report for a valid one": (
         edit_tar(GO, "/ruthvelka.go", b" && report.verdict == C.RUTHVELKA_VALID", b""), "go", "Go: its tests pass"),
+    "a module whose library is in a folder of its own": (lambda folder: change_tar(one_of(folder, GO), apart), "go", "Go: it can be vendored"),
+    "a module with the sum of another library": (
+        edit_tar(GO, "/sum.go", b'LibrarySum = "', b'LibrarySum = "0'), "go", "Go: it has the sum of its library"),
+    "a README whose command takes no path with a space": (
+        lambda folder: change_tar(one_of(folder, MAIN), without_eval), "library", "C: the commands of the README print what it says"),
     "an install.sh that ignores its prefix": (
         edit_tar(MAIN, "/install.sh", b"to=${DESTDIR:-}$prefix", b"to=${DESTDIR:-}/usr/local"), "install",
         "install.sh installs below its prefix, and nothing else",

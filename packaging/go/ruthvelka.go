@@ -1,3 +1,5 @@
+//go:build cgo && linux && amd64
+
 // Package ruthvelka validates WebAssembly modules, by a validator that is proved, in a library that this module contains.
 //
 // Each call gives what a valid module has and no error, or nil and an error: a *Refused where the bytes are no valid module, ErrMemory where memory
@@ -5,8 +7,8 @@
 package ruthvelka
 
 /*
-#cgo CFLAGS: -I${SRCDIR}/lib
-#cgo LDFLAGS: -L${SRCDIR}/lib -lruthvelka
+#cgo CFLAGS: -I${SRCDIR}
+#cgo LDFLAGS: -L${SRCDIR} -lruthvelka
 #include <ruthvelka.h>
 #include <stdlib.h>
 */
@@ -35,6 +37,23 @@ func nameOf(feature WasmFeatures) string {
 	var name [64]C.char
 	length := C.ruthvelka_feature_name(C.uint64_t(feature), &name[0], C.size_t(len(name)))
 	return C.GoStringN(&name[0], C.int(length))
+}
+
+// String has the names of the proposals, as Feature takes them, with | between them. Of a bit that no proposal has it has the number.
+func (it WasmFeatures) String() string {
+	names := []string{}
+	for rest := it; rest != 0; rest &= rest - 1 {
+		feature := rest & -rest
+		if name := nameOf(feature); name != "" {
+			names = append(names, name)
+		} else {
+			names = append(names, fmt.Sprintf("%#x", uint64(feature)))
+		}
+	}
+	if len(names) == 0 {
+		return "0"
+	}
+	return strings.Join(names, " | ")
 }
 
 // ErrMemory says that memory was refused, and nothing of the bytes.

@@ -2,6 +2,7 @@ package ruthvelka
 
 import (
 	"errors"
+	"fmt"
 	"reflect"
 	"strings"
 	"testing"
@@ -48,6 +49,17 @@ func TestFeaturesAreThoseOfTheLibrary(t *testing.T) {
 	}
 	if count != len(names) || count == 0 {
 		t.Errorf("%d features in place of %d", len(names), count)
+	}
+}
+
+func TestFeaturesPrintTheirNames(t *testing.T) {
+	for it, want := range map[WasmFeatures]string{0: "0", GC: "GC", SIMD | CrateLimits | 1<<63: "SIMD | CRATE_LIMITS | 0x8000000000000000"} {
+		if shown := fmt.Sprint(it); shown != want {
+			t.Errorf("%s in place of %s", shown, want)
+		}
+	}
+	if why := refusal(t, head+vectors, Standard); why.MissingFeatures.String() != "VECTOR_OPERATORS" {
+		t.Errorf("%+v", why)
 	}
 }
 

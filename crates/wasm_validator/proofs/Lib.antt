@@ -1,5 +1,6 @@
 pub use Rattle.wasm_validator_modules.proofs.WasmLawsCore as WasmLawsCore
 pub use Rattle.wasm_validator_modules.proofs.WasmValidatorCanonical as WasmValidatorCanonical
+pub use Rattle.wasm_validator_modules.proofs.Stays
 pub mod Lists
 pub mod Ordered
 pub mod Headline

@@ -109,6 +109,8 @@ pub use wasm_validator_modules::operators::read_expression;
 pub use wasm_validator_modules::operators::read_memarg;
 pub use wasm_validator_modules::operators::read_operator;
 pub use wasm_validator_modules::own_id_for_each_type;
+pub use wasm_validator_modules::payload::Answered;
+pub use wasm_validator_modules::payload::answer_all;
 pub use wasm_validator_modules::payloads_decide;
 pub use wasm_validator_modules::readers::AbstractHeapType;
 pub use wasm_validator_modules::readers::ArrayType;

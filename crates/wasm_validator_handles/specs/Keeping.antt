@@ -1,10 +1,10 @@
 -- What stands behind a handle, and what is done to it, as callers see it.
-use Rattle.std.specs.Prelude.{ℕ, ◌≡◌, true, false, List, Option, Some, None, IsSome}
+use Rattle.std.specs.Prelude.{ℕ, ◌≡◌, ◌⊎◌, true, false, List, Option, Some, None, IsSome}
 use Rattle.std.specs.declared.alloc.Global.{Global}
 use Rattle.std.specs.declared.result.Result.{Result}
 use Rattle.std.specs.declared.result.Result.TheVariants.{Ok, Err}
 use Rattle.wasm_validator.specs.Standing.{Standing, may_reset, after_reset}
-use Rattle.wasm_validator.specs.Verdict.{DecidesModule}
+use Rattle.wasm_validator.specs.Verdict.{DecidesModule, EndsModule, StopsModule}
 use Rattle.wasm_validator.specs.WasmValidatorTypes.declared.shown.Types as shown
 use Rattle.wasm_validator.specs.WasmValidatorCore.declared.error.Error.{Error}
 use Rattle.wasm_validator_handles.specs.declared.kept.Kept.{Kept}
@@ -23,9 +23,14 @@ types_of (Some (Types t)) = Some t.value
 types_of (Some (Validator v)) = None
 types_of None = None
 
+-- the module came to its end, so that the validator stands there with its types, or was refused before
+abbrev pub EndsOrStops : Result (shown.Types Global) (Error Global) → List ℕ → Standing → Standing → Type 0
+EndsOrStops answer bytes old new = EndsModule bytes old new ⊎ StopsModule answer bytes old new
+
 -- Of a validator that may go on: behind a reset it decided the module. One that may not was not asked, and stands where it stood.
 abbrev pub AnswersNext : Result (Result (shown.Types Global) (Error Global)) NotAsked → List ℕ → Standing → Standing → Type 0
-AnswersNext (Ok answer) bytes old new = (may_reset old ≡ true) × DecidesModule answer bytes (after_reset old) new
+AnswersNext (Ok answer) bytes old new =
+    (may_reset old ≡ true) × DecidesModule answer bytes (after_reset old) new × EndsOrStops answer bytes (after_reset old) new
 AnswersNext (Err NoValidator) bytes old new = ⊥
 AnswersNext (Err HasFailed) bytes old new = (may_reset old ≡ false) × (new ≡ old)
 

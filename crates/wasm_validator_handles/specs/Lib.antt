@@ -6,4 +6,5 @@ pub mod Values
 pub mod Pairs
 pub mod Entities
 pub mod Signatures
+pub mod Calls
 pub mod Names

@@ -9,7 +9,7 @@ ghost use Rattle.wasm_validator_handles.specs.Keeping.{Answers, AnswersNext, Res
 
 use std::alloc::{AllocError, Global};
 use std::rc::Rc;
-use wasm_validator::{Error, Types, Validator};
+use wasm_validator::{Error, Types, Validator, answer_all};
 
 /// What the validator answers.
 pub type Answer = Result<Types, Error>;
@@ -82,7 +82,7 @@ fn validate_next(validator: &mut Validator, bytes: &[u8]) -> Result<Answer, NotA
 {
     if validator.can_reset() {
         validator.reset();
-        Ok(validator.validate_all(bytes))
+        Ok(answer_all(validator, bytes).answer)
     } else {
         Err(NotAsked::HasFailed)
     }

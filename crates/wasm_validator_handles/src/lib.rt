@@ -6,6 +6,7 @@
 mod entities;
 mod handle;
 mod kept;
+mod laws;
 mod loose;
 mod names;
 mod pairs;
@@ -15,6 +16,7 @@ mod values;
 pub use entities::{Extern, ExternType, Externs, count_exports, count_imports, gather_externs};
 pub use handle::Handle;
 pub use kept::{Answer, Kept, NotAsked};
+pub use laws::calls_say_of_all;
 pub use names::{all_features, find_feature, find_name};
 pub use pairs::{are_one, longer};
 pub use signatures::{Signature, find_signature};

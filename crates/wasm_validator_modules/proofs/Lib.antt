@@ -4,6 +4,7 @@ pub use Rattle.wasm_validator_states.proofs.Growing
 pub use Rattle.wasm_validator_states.proofs.Resets
 pub use Rattle.wasm_validator_states.proofs.TableKept
 pub use Rattle.wasm_validator_states.proofs.HeldShown
+pub use Rattle.wasm_validator_states.proofs.Stays
 pub mod Cited
 pub mod Runs
 pub mod Bodies

@@ -34,3 +34,4 @@ pub mod OpenModules
 pub mod SectionMoves
 pub mod ToldMoves
 pub mod Together
+pub mod Stays

@@ -11,6 +11,7 @@ fn main() {
         let named = std::env::var("RUTHVELKA_LIBRARY").expect("the crate has no lib/libruthvelka.a, and RUTHVELKA_LIBRARY names no folder");
         PathBuf::from(named)
     };
+    println!("cargo:rerun-if-changed={}", folder.join("libruthvelka.a").display());
     println!("cargo:rustc-link-search=native={}", folder.display());
     println!("cargo:rustc-link-lib=static=ruthvelka");
 }

@@ -17,7 +17,7 @@ impl WasmFeatures {
     pub const SIMD: WasmFeatures = WasmFeatures(1 << 4);
     /// shared memories
     pub const THREADS: WasmFeatures = WasmFeatures(1 << 5);
-    /// types, tables and globals that are shared between threads; see "Left out"
+    /// types, tables and globals that are shared between threads, in part
     pub const SHARED_EVERYTHING_THREADS: WasmFeatures = WasmFeatures(1 << 6);
     /// floating-point types
     pub const FLOATS: WasmFeatures = WasmFeatures(1 << 7);
@@ -37,9 +37,9 @@ impl WasmFeatures {
     pub const GC_TYPES: WasmFeatures = WasmFeatures(1 << 14);
     /// memories with a written page size
     pub const CUSTOM_PAGE_SIZES: WasmFeatures = WasmFeatures(1 << 15);
-    /// descriptor clauses, and exact references; see "Left out"
+    /// descriptor clauses, and exact references, in part
     pub const CUSTOM_DESCRIPTORS: WasmFeatures = WasmFeatures(1 << 16);
-    /// continuation types; see "Left out"
+    /// continuation types, in part
     pub const STACK_SWITCHING: WasmFeatures = WasmFeatures(1 << 17);
     /// components, which are not validated
     pub const COMPONENT_MODEL: WasmFeatures = WasmFeatures(1 << 18);
@@ -49,7 +49,7 @@ impl WasmFeatures {
     pub const ATOMIC_OPERATORS: WasmFeatures = WasmFeatures(1 << 20);
     /// try, catch, catch_all, rethrow and delegate; they need EXCEPTIONS too
     pub const LEGACY_EXCEPTIONS: WasmFeatures = WasmFeatures(1 << 21);
-    /// no proposal: the limits of the Rust crate's readers; see "Gates"
+    /// no proposal: the limits of the Rust crate's readers, for hosts that take modules from strangers
     pub const CRATE_LIMITS: WasmFeatures = WasmFeatures(1 << 22);
     /// What is on by default: the Core Specification 3.0 without its operators on vectors, but with `v128.const`, and shared memories.
     pub const STANDARD: WasmFeatures = WasmFeatures(
