@@ -1513,6 +1513,22 @@ def seldom():
                            ('what refers to earlier types', [plain, plain, types, plain, used, plain])]:
         row('%s, in modules one after another' % title, *[Part(it, None, told='') for it in modules], features='all')
 
+    heading('Groups that name a place of theirs in one way alone, in three modules')
+    for title, first, ops in [
+            ('a parameter', 'func ?1 ->', 'ref.null 1; call 0'), ('the second parameter', 'func i32 ?1 ->', 'i32.const 0; ref.null 1; call 0'),
+            ('a result', 'func -> ?1', 'call 0; struct.get 1 0; drop'), ('the second result', 'func -> i32 ?1', 'call 0; struct.get 1 0; drop; drop'),
+            ('an element', 'array ?1', 'ref.null 0; i32.const 0; array.get 0; struct.get 1 0; drop'),
+            ('a field', 'struct ?1', 'ref.null 0; struct.get 0 0; struct.get 1 0; drop'),
+            ('the second field', 'struct i32 ?1', 'ref.null 0; struct.get 0 1; struct.get 1 0; drop'),
+            ('a field behind a packed one', 'struct i8 ?1', 'ref.null 0; struct.get 0 1; struct.get 1 0; drop'),
+            ('a field that is never null', 'struct !1', 'ref.null 0; struct.get 0 0; struct.get 1 0; drop')]:
+        used = W.build(types=[[first, 'struct i32'], 'func ->'], ntypes=3, funcs=[(0, '', 'unreachable')] * first.startswith('func') + [(2, '', ops)])
+        row('a group that names its place as %s' % title, *[Part(used, told='')] * 3, features='all')
+    exact = W.build(types=[[b'\x5f\1\x63\x62\1\0', 'struct i32'], 'func ->'], ntypes=3, funcs=[(2, '', 'ref.null 0; struct.get 0 0; struct.get 1 0; drop')])
+    row('a group that names its place as an exact field', *[Part(exact, told='')] * 3, features='all')
+    described = W.build(types=[[b'\x4d\1\x5f\1\x7f\0', b'\x4c\0\x5f\0'], 'func ->'], ntypes=3, funcs=[(2, '', 'i32.const 0; x:d06201fb2000; drop')])
+    row('a group that names its places as descriptor and described', *[Part(described, told='')] * 3, features='all')
+
 
 B_MULTI = 'blocks, loops, and ifs may only produce a resulttype when multi-value is not enabled'
 B_REFERENCES, B_BULK = B.REFS, B.BULK
