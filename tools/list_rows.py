@@ -165,6 +165,17 @@ def long_lists():
         put_in_turn('%s behind values of which none is as it takes them' % name, *[module(kinds(n), ops, kinds(n + 1)[1:], ty) for n in LENGTHS])
 
 
+def long_lists_of_references():
+    M.heading('The same with references among the values')
+    for types in (['?any'] * 9, ['?any'] + kinds(9)):
+        for name, ops in LOOKING.items():
+            ty, last = 1 if name == 'return' else 0, len(types) - 1
+            made = [types, [LOWER] + types[1:], ['v128'] + types[1:], ['i32'] + types[1:], types[:last] + [LOWER], types[:last] + ['i64']]
+            put_in_turn('%s behind references and what is none' % name, *[module(types, ops, it, ty) for it in made])
+            put_in_turn('unreached %s behind one more than it takes, references and what is none' % name,
+                        *[module(types, ops.replace('V', 'unreachable; V', 1), ['i32'] + it, ty) for it in made])
+
+
 def long_lists_unreached():
     M.heading('The same in code that is not reached')
     types = kinds(20)
@@ -174,6 +185,9 @@ def long_lists_unreached():
                     *[module(types, unreached, given, ty) for given in [types[20 - n:] for n in LENGTHS] + [['i32'] + types]])
         put_in_turn('unreached %s behind some values, another one in each place in turn' % name,
                     *[module(types, unreached, with_another(types, place)[max(0, place - place % 3):], ty) for place in range(20)])
+        put_in_turn('unreached %s behind the first of the values that it takes' % name, *[module(types, unreached, types[:n], ty) for n in LENGTHS[:-1]])
+        put_in_turn('unreached %s behind one more, another one in a place' % name,
+                    *[module(types, unreached, ['i32'] + with_another(types, place), ty) for place in (0, 7, 8, 16, 19)])
 
 
 def given(taken, gives, others, before, after):
@@ -195,7 +209,7 @@ def long_lists_given():
 
 def main():
     M.CASES.clear()
-    for part in [reached, outside, unreached, given_again, caught, long_lists, long_lists_unreached, long_lists_given]:
+    for part in [reached, outside, unreached, given_again, caught, long_lists, long_lists_of_references, long_lists_unreached, long_lists_given]:
         part()
     lines = row_writer.head_of_modules() + ['#', '# Written by tools/list_rows.py, which says where the wanted answers come from.']
     answers, lacking = Answers(), []

@@ -1497,6 +1497,11 @@ def seldom():
                        ('function 111', 'ref.func 111; call_ref 1; drop'), ('function 112', 'ref.func 112; call_ref 1; drop'),
                        ('function 112 for extern', 'ref.func 112; global.set 0')]:
         case('%s where there are as many functions' % title, W.build(funcs=[(1, '', 'unreachable')] * 113 + [(0, '', ops)], **many), told='')
+    asked('struct.new in a block that takes nothing, then a number', 'block; i32.const 1; struct.new 0; i32.eqz; drop; end', types=['struct i32'], told='')
+    shared = b'\x65\x5f\1\x7f\0'
+    for title, ops in [('none for a structure', 'ref.null none; struct.get 1 0; drop'), ('shared none for a structure', 'x:d06571; struct.get 1 0; drop'),
+                       ('none for a shared structure', 'ref.null none; struct.get 2 0; drop'), ('shared none for a shared structure', 'x:d06571; struct.get 2 0; drop')]:
+        asked('a null of %s' % title, ops, ty=0, types=['func ->', 'struct i32', shared], features='all', told='')
     heading('Types that refer to each other, in one module after another')
     ring, self = ['struct ?1', 'struct mut:?0'], 'struct mut:?0'
     used = W.build(types=[ring, 'func ?0 ->'], ntypes=3,
@@ -1513,6 +1518,10 @@ def seldom():
                            ('what refers to earlier types', [plain, plain, types, plain, used, plain])]:
         row('%s, in modules one after another' % title, *[Part(it, None, told='') for it in modules], features='all')
 
+    constants = W.build(types=[ring, 'func ?0 ->'], ntypes=3, globals=[('?0', 'ref.null 0')], tables=['?1 1'],
+                        elems=[dict(mode='passive', type='?0', exprs=['ref.null 0']), dict(mode='passive', type='?1', exprs=['ref.null 1'])],
+                        funcs=[(2, '', 'global.get 0; struct.get 0 0; struct.get 1 0; struct.get 0 0; drop')])
+    row('a ring in constants and bodies, in modules one after another', *[Part(constants, told='')] * 3, features='all')
     heading('Groups that name a place of theirs in one way alone, in three modules')
     for title, first, ops in [
             ('a parameter', 'func ?1 ->', 'ref.null 1; call 0'), ('the second parameter', 'func i32 ?1 ->', 'i32.const 0; ref.null 1; call 0'),
