@@ -83,6 +83,14 @@ def numbers():
     initializer('a global by three numbers of which two are added', 'i32', 'i32.const 1; i32.const 2; i32.const 3; i32.add')
 
 
+def with_globals(*items):
+    def put(sections):
+        for it in sections:
+            if it[0] == 6:
+                it[1] = W.listed(items)
+    return put
+
+
 def references():
     heading('Globals by references')
     for heap in ['func', 'extern', 'any', 'eq', 'i31', 'struct', 'array', 'none', 'nofunc', 'noextern', 'exn', 'noexn', '2']:
@@ -99,6 +107,10 @@ def references():
     initializer('a global by ref.func of a function that is not there', 'funcref', 'ref.func 2')
     initializer('a global of external references by ref.func', 'externref', 'ref.func 0')
     initializer('a number by ref.func', 'i32', 'ref.func 0')
+    # the custom descriptors proposal: an import without `exact` may be of a subtype
+    for title, imported, wanted in [('a function', ('m', 'f', 'func', 0), 'refused'), ('a function that is imported as exact', b'\1m\1f\x20\0', 'ok')]:
+        exact = W.build(types=TYPES[:1], imports=[imported], globals=[('i32', '')], post=with_globals(b'\x64\x62\0\0\xd2\0\x0b'))
+        case('a global of an exact type by ref.func of %s' % title, exact, wanted=wanted)
     for op, ty, before in [('struct.new 2', '!2', 'i32.const 1; i64.const 2'), ('struct.new_default 2', '!2', ''), ('array.new 3', '!3', 'i32.const 1; i32.const 2'),
                            ('array.new_default 3', '!3', 'i32.const 2'), ('array.new_fixed 3 2', '!3', 'i32.const 1; i32.const 2'), ('ref.i31', '!i31', 'i32.const 1'),
                            ('extern.convert_any', 'externref', 'ref.null any'), ('any.convert_extern', 'anyref', 'ref.null extern')]:

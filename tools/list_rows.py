@@ -19,8 +19,11 @@ from crate_answers import Answers
 # A short list of types, and one of types of every kind; both ends are references, so that a subtype may stand there.
 LISTS = [['?any', '?any'], ['?any'] + ['i32', 'i64', 'f32', 'f64'] * 2 + ['?any']]
 VALUES = {'?any': 'ref.null any', '?none': 'ref.null none', 'i32': 'i32.const 0', 'i64': 'i64.const 0', 'f32': 'f32.const 0',
-          'f64': 'f64.const 0'}
+          'f64': 'f64.const 0', 'v128': 'v128.const'}
 ANOTHER, LOWER = 'i64', '?none'
+# Lists of these kinds, some about as long as those that are compared many places at a time.
+KINDS = ['i32', 'i64', 'f32', 'f64', 'v128']
+LENGTHS = [1, 7, 8, 9, 15, 16, 17, 20]
 
 # Operators on the types L, as `before; OP` with V for the operands, D for what drops as many. The types: 1 gives L, 2 takes L, 3 takes and
 # gives L, 4 gives L and a reference that isn't null, 5 gives L and a reference.
@@ -129,9 +132,84 @@ def caught():
             put('catch that sends %s' % sort, len(types), types, 'block @1; try_table _ [catch:1:0]; end; unreachable; end; D', types, sent=sent)
 
 
+def kinds(count):
+    """So many types, of each kind in turn."""
+    return [KINDS[i % len(KINDS)] for i in range(count)]
+
+
+def with_another(types, place):
+    """The types with another one in one place; in twenty places each kind stands for each other one."""
+    return types[:place] + [KINDS[(place + 1 + place // len(KINDS)) % len(KINDS)]] + types[place + 1:]
+
+
+def put_in_turn(name, *modules):
+    M.row(name, *[M.Part(it, beyond=True) for it in modules], features='all')
+
+
+# Operators that look at operands as at a list, with those that do it in code that isn't reached.
+LOOKING = {
+    'br': 'block @1; V; br 0; end; D', 'end of a block': 'block @1; V; end; D', 'call': 'V; call 1', 'return': 'V; return',
+    'block': 'V; block @3; end; D',
+}
+
+
+def long_lists():
+    M.heading('Long lists of numbers and vectors, and what is another one in each of their places')
+    for name, ops in LOOKING.items():
+        ty = 1 if name == 'return' else 0
+        put_in_turn('%s behind as many values as it takes' % name, *[module(kinds(n), ops, kinds(n), ty) for n in LENGTHS])
+        put_in_turn('%s behind a value less' % name, *[module(kinds(n), ops, kinds(n)[1:], ty) for n in LENGTHS])
+        types = kinds(20)
+        put_in_turn('%s behind twenty values, another one in each place in turn' % name,
+                    *[module(types, ops, with_another(types, place), ty) for place in range(20)])
+        put_in_turn('%s behind values of which none is as it takes them' % name, *[module(kinds(n), ops, kinds(n + 1)[1:], ty) for n in LENGTHS])
+
+
+def long_lists_of_references():
+    M.heading('The same with references among the values')
+    for types in (['?any'] * 9, ['?any'] + kinds(9)):
+        for name, ops in LOOKING.items():
+            ty, last = 1 if name == 'return' else 0, len(types) - 1
+            made = [types, [LOWER] + types[1:], ['v128'] + types[1:], ['i32'] + types[1:], types[:last] + [LOWER], types[:last] + ['i64']]
+            put_in_turn('%s behind references and what is none' % name, *[module(types, ops, it, ty) for it in made])
+            put_in_turn('unreached %s behind one more than it takes, references and what is none' % name,
+                        *[module(types, ops.replace('V', 'unreachable; V', 1), ['i32'] + it, ty) for it in made])
+
+
+def long_lists_unreached():
+    M.heading('The same in code that is not reached')
+    types = kinds(20)
+    for name, ops in LOOKING.items():
+        ty, unreached = 1 if name == 'return' else 0, ops.replace('V', 'unreachable; V', 1)
+        put_in_turn('unreached %s behind some of the values that it takes, and one more' % name,
+                    *[module(types, unreached, given, ty) for given in [types[20 - n:] for n in LENGTHS] + [['i32'] + types]])
+        put_in_turn('unreached %s behind some values, another one in each place in turn' % name,
+                    *[module(types, unreached, with_another(types, place)[max(0, place - place % 3):], ty) for place in range(20)])
+        put_in_turn('unreached %s behind the first of the values that it takes' % name, *[module(types, unreached, types[:n], ty) for n in LENGTHS[:-1]])
+        put_in_turn('unreached %s behind one more, another one in a place' % name,
+                    *[module(types, unreached, ['i32'] + with_another(types, place), ty) for place in (0, 7, 8, 16, 19)])
+
+
+def given(taken, gives, others, before, after):
+    """A module whose second function takes and gives these types, whose third one takes the given ones, and whose fourth the others."""
+    listed = ['func ->', 'func %s -> %s' % (' '.join(taken), ' '.join(gives)), 'func %s ->' % ' '.join(gives), 'func %s ->' % ' '.join(others)]
+    functions = [(0, '', ''), (1, '', 'unreachable'), (2, '', ''), (3, '', '')]
+    return W.build(types=listed, funcs=functions + [(0, '', '; '.join([before, 'call 1', after]))])
+
+
+def long_lists_given():
+    M.heading('What stands in the places of operands that were there before, or that are there still')
+    types = kinds(20)
+    for n in (1, 8, 9, 17):
+        for name, taken in [('as many values', n), ('no value', 0), ('one value less', n - 1), ('one value more', n + 1)][:4 if n > 1 else 2]:
+            before = [with_another(types[:n], place) + ['i64'] * (taken > n) for place in range(max(0, n - 9), n)]
+            made = [given(it[:taken], types[:n], it[:n], operands(it) + '; drop' * max(0, n - taken), 'call %d' % k) for it in before for k in (2, 3)]
+            put_in_turn('a call that takes %s and gives %d, where others stood' % (name, n), *made)
+
+
 def main():
     M.CASES.clear()
-    for part in [reached, outside, unreached, given_again, caught]:
+    for part in [reached, outside, unreached, given_again, caught, long_lists, long_lists_of_references, long_lists_unreached, long_lists_given]:
         part()
     lines = row_writer.head_of_modules() + ['#', '# Written by tools/list_rows.py, which says where the wanted answers come from.']
     answers, lacking = Answers(), []

@@ -1462,6 +1462,83 @@ def edges():
     case('struct.new_desc in a shared function, of a type that is not shared', b, 'default+custom_descriptors+shared_everything_threads', beyond=True)
 
 
+def seldom():
+    """Operators that are read in place, before bytes that another reading takes for another operator; and types that several modules share."""
+    heading('Operators that are read in place, and what stands behind them')
+    three = 'i32.const 0; i32.const 0; i32.const 0; '
+    for title, ops, parts in [
+            ('memory.copy, then a sum without operands', three + 'memory.copy 0 0; i32.add; drop', {}),
+            ('memory.fill before unreachable', three + 'memory.fill 0; unreachable; i32.add; drop', {}),
+            ('memory.copy of two memories, then a sum without operands', three + 'memory.copy 1 0; i32.add; drop', dict(mems=['1', '1'])),
+            ('memory.size above a number', 'i32.const 1; memory.size 0; i32.add; drop', {}),
+            ('memory.grow above a number', 'i32.const 1; i32.const 1; memory.grow 0; i32.add; drop', {}),
+            ('ref.is_null before i32.rem_s', 'i32.const 5; ref.null func; ref.is_null; i32.rem_s; drop', {}),
+            ('ref.is_null before i32.rem_u', 'i32.const 5; ref.null func; ref.is_null; i32.rem_u; drop', {}),
+            ('table.get where code is not reached gives no number', 'unreachable; table.get 0; i32.eqz; drop', {}),
+            ('table.set where code is not reached gives nothing', 'unreachable; table.set 0', {}),
+            ('select and drop where code is not reached, in an if', 'i32.const 0; if; unreachable; select; drop; end', {}),
+            ('select of floats in an if',
+             'i32.const 0; if =f32; f32.const 0; f32.const 0; i32.const 0; select; else; f32.const 0; end; drop', {}),
+            ('f32.const before four bytes', 'f32.const 0; nop; nop; nop; nop; f32.neg; drop', {}),
+            ('f64.const, then a drop too many', 'f64.const 0; drop; drop', {}),
+            ('f64.const gives one', 'f64.const 0; f64.neg; drop', {}),
+            ('a null of func for extern', 'ref.null func; global.set 0', dict(globals=[('mut:externref', 'ref.null extern')])),
+            ('a null of extern for func', 'ref.null extern; global.set 0', dict(globals=[('mut:funcref', 'ref.null func')])),
+            ('a null of extern', 'ref.null extern; global.set 0', dict(globals=[('mut:externref', 'ref.null extern')])),
+            ('a null of func', 'ref.null func; global.set 0', dict(globals=[('mut:funcref', 'ref.null func')]))]:
+        asked(title, ops, **{'mems': ['1'], 'tables': ['funcref 1'], **parts})
+    for op, gives in [('i32.trunc_sat_f32_s', 'i32'), ('i32.trunc_sat_f64_u', 'i32'), ('i64.trunc_sat_f32_s', 'i64'), ('i64.trunc_sat_f64_u', 'i64')]:
+        takes = op.split('_')[2]
+        asked('%s above a number' % op,
+              'i64.const 0; %s.const 0; %s; block =%s; %s.const 0; end; %s.add; drop; drop' % (takes, op, gives, gives, gives))
+    many = dict(types=['func ->', 'func -> i32'], elems=[dict(mode='declared', funcs=[111, 112])],
+                globals=[('mut:externref', 'ref.null extern'), ('mut:?1', 'ref.null 1')])
+    for title, ops in [('a null of extern', 'ref.null extern; global.set 0'), ('a null of func for a type', 'ref.null func; global.set 1'),
+                       ('function 111', 'ref.func 111; call_ref 1; drop'), ('function 112', 'ref.func 112; call_ref 1; drop'),
+                       ('function 112 for extern', 'ref.func 112; global.set 0')]:
+        case('%s where there are as many functions' % title, W.build(funcs=[(1, '', 'unreachable')] * 113 + [(0, '', ops)], **many), told='')
+    asked('struct.new in a block that takes nothing, then a number', 'block; i32.const 1; struct.new 0; i32.eqz; drop; end', types=['struct i32'], told='')
+    shared = b'\x65\x5f\1\x7f\0'
+    for title, ops in [('none for a structure', 'ref.null none; struct.get 1 0; drop'), ('shared none for a structure', 'x:d06571; struct.get 1 0; drop'),
+                       ('none for a shared structure', 'ref.null none; struct.get 2 0; drop'), ('shared none for a shared structure', 'x:d06571; struct.get 2 0; drop')]:
+        asked('a null of %s' % title, ops, ty=0, types=['func ->', 'struct i32', shared], features='all', told='')
+    heading('Types that refer to each other, in one module after another')
+    ring, self = ['struct ?1', 'struct mut:?0'], 'struct mut:?0'
+    used = W.build(types=[ring, 'func ?0 ->'], ntypes=3,
+                   funcs=[(2, '', 'local.get 0; struct.get 0 0; struct.get 1 0; struct.get 0 0; drop; ref.null 1; struct.new 0; drop')])
+    wrong = W.build(types=[ring, 'func ?0 ->'], ntypes=3, funcs=[(2, '', 'local.get 0; struct.get 0 0; struct.get 0 0; drop')])
+    behind = W.build(types=['func ->', ['struct ?2', 'struct mut:?1'], 'func ?1 ->'], ntypes=4,
+                     funcs=[(3, '', 'local.get 0; struct.get 1 0; struct.get 2 0; struct.get 1 0; drop')])
+    alone = W.build(types=[self, 'func ?0 ->'], funcs=[(1, '', 'local.get 0; local.get 0; struct.get 0 0; struct.set 0 0')])
+    plain = W.build(types=['struct i32', 'struct ?0', 'func ?1 ->'], funcs=[(2, '', 'local.get 0; struct.get 1 0; struct.get 0 0; drop')])
+    types = W.build(types=[ring])
+    for title, modules in [('a ring thrice', [used, used, used]), ('a ring, first alone', [types, used, types, used]),
+                           ('a ring at other places', [used, behind, used, wrong]), ('a type of itself', [alone, alone, plain, alone]),
+                           ('a ring behind what refers to earlier types', [plain, used, plain, behind, alone]),
+                           ('what refers to earlier types', [plain, plain, types, plain, used, plain])]:
+        row('%s, in modules one after another' % title, *[Part(it, None, told='') for it in modules], features='all')
+
+    constants = W.build(types=[ring, 'func ?0 ->'], ntypes=3, globals=[('?0', 'ref.null 0')], tables=['?1 1'],
+                        elems=[dict(mode='passive', type='?0', exprs=['ref.null 0']), dict(mode='passive', type='?1', exprs=['ref.null 1'])],
+                        funcs=[(2, '', 'global.get 0; struct.get 0 0; struct.get 1 0; struct.get 0 0; drop')])
+    row('a ring in constants and bodies, in modules one after another', *[Part(constants, told='')] * 3, features='all')
+    heading('Groups that name a place of theirs in one way alone, in three modules')
+    for title, first, ops in [
+            ('a parameter', 'func ?1 ->', 'ref.null 1; call 0'), ('the second parameter', 'func i32 ?1 ->', 'i32.const 0; ref.null 1; call 0'),
+            ('a result', 'func -> ?1', 'call 0; struct.get 1 0; drop'), ('the second result', 'func -> i32 ?1', 'call 0; struct.get 1 0; drop; drop'),
+            ('an element', 'array ?1', 'ref.null 0; i32.const 0; array.get 0; struct.get 1 0; drop'),
+            ('a field', 'struct ?1', 'ref.null 0; struct.get 0 0; struct.get 1 0; drop'),
+            ('the second field', 'struct i32 ?1', 'ref.null 0; struct.get 0 1; struct.get 1 0; drop'),
+            ('a field behind a packed one', 'struct i8 ?1', 'ref.null 0; struct.get 0 1; struct.get 1 0; drop'),
+            ('a field that is never null', 'struct !1', 'ref.null 0; struct.get 0 0; struct.get 1 0; drop')]:
+        used = W.build(types=[[first, 'struct i32'], 'func ->'], ntypes=3, funcs=[(0, '', 'unreachable')] * first.startswith('func') + [(2, '', ops)])
+        row('a group that names its place as %s' % title, *[Part(used, told='')] * 3, features='all')
+    exact = W.build(types=[[b'\x5f\1\x63\x62\1\0', 'struct i32'], 'func ->'], ntypes=3, funcs=[(2, '', 'ref.null 0; struct.get 0 0; struct.get 1 0; drop')])
+    row('a group that names its place as an exact field', *[Part(exact, told='')] * 3, features='all')
+    described = W.build(types=[[b'\x4d\1\x5f\1\x7f\0', b'\x4c\0\x5f\0'], 'func ->'], ntypes=3, funcs=[(2, '', 'i32.const 0; x:d06201fb2000; drop')])
+    row('a group that names its places as descriptor and described', *[Part(described, told='')] * 3, features='all')
+
+
 B_MULTI = 'blocks, loops, and ifs may only produce a resulttype when multi-value is not enabled'
 B_REFERENCES, B_BULK = B.REFS, B.BULK
 
@@ -1579,7 +1656,7 @@ def programs():
         row('the program %s with another operator, in turn' % name, *[Part(other, plain=True) for other in changed(b, 10 if len(b) < 800 else 6)])
 
 
-PARTS = [by_bytes, on_one_validator, limits, numbers, accesses, frames, unreached, joins, named, calls, identities, catches, casts, gated, beyond, descriptors, continuations, edges, scored,
+PARTS = [by_bytes, on_one_validator, limits, numbers, accesses, frames, unreached, joins, named, calls, identities, catches, casts, gated, beyond, descriptors, continuations, edges, scored, seldom,
          bodies, programs]
 
 if __name__ == '__main__':
