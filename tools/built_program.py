@@ -1,4 +1,5 @@
-"""The program that bin/wasm-check or bin/wasm-validate runs, for tools that call it often: the wrapper looks at all sources at each call."""
+"""The program that bin/wasm-check or bin/wasm-validate runs, for tools that call it often: the wrapper looks at all sources at each call; and where
+the files are put that it is called with."""
 import os
 import subprocess
 import sys
@@ -20,3 +21,13 @@ def built_program(crate):
         sys.exit(f"{wrapper} ended with status {ran.returncode} on an empty module: {ran.stdout.decode(errors='replace')[-300:]}")
     path = subprocess.run(["bash", "-c", SCRIPT, "bash", TOP, crate], stdout=subprocess.PIPE, text=True).stdout.strip()
     return path if os.access(path, os.X_OK) else wrapper
+
+
+def memory_folder():
+    """A folder whose files are in memory, if there is one with room for the modules of all rows: ten thousand files take as long elsewhere as all the
+    rest."""
+    try:
+        there = os.statvfs("/dev/shm")
+        return "/dev/shm" if os.access("/dev/shm", os.W_OK | os.X_OK) and there.f_bavail * there.f_frsize > 1 << 28 else None
+    except OSError:
+        return None

@@ -227,6 +227,17 @@ def read_module(tree, path, rows, module):
 class Library:
     """The top module of each library of the repository by its name. Methods and impls stand at their types, and at public traits."""
 
+    kept = {}
+
+    @staticmethod
+    def of(tree):
+        """The library of the sources as they are, which is read once, or of ones of which some that it is made of are replaced."""
+        if not Library.kept:
+            sources = Tree()
+            made = Library(sources)
+            Library.kept = {"made": made, "asked": sources.asked}
+        return Library(tree) if tree.replaced.keys() & Library.kept["asked"] else Library.kept["made"]
+
     def __init__(self, tree):
         self.tops = {}
         for name in tree.crates():

@@ -106,10 +106,12 @@ SECTIONS = {
 
 
 class Statement:
-    """What contracts rest on, part by part: each part has what those before it haven't."""
+    """What contracts rest on, part by part: each part has what those before it haven't. A statement of sources of which some are replaced takes from
+    that of the sources as they are, `first`, what items use in files that stand and name what stands."""
 
-    def __init__(self, tree):
+    def __init__(self, tree, first=None):
         self.tree, self.specs = tree, Specs(tree)
+        self.first = first if first and self.specs.has_names_of(first.specs) else None
         self.code = Code(tree, self.specs)
         self.names, self.uses, self.kit, self.kit_of_theorem, self.functions = {}, {}, set(), [], []
         self.contracts, self.parts, seen = {}, [], {}
@@ -145,7 +147,9 @@ class Statement:
         kind, it = found
         key = (kind, it.key, is_meant)
         if key not in self.uses:
-            if kind == "item":
+            if kind == "item" and self.first and key in self.first.uses and self.specs.has_file_of(self.first.specs, it):
+                self.uses[key] = [self.specs.here(found) for found in self.first.uses[key]]
+            elif kind == "item":
                 names = self.names.setdefault(it.module.path, Names(self.specs, it.module))
                 self.uses[key] = uses_of(names, it)[0]
             else:
@@ -304,8 +308,11 @@ class Specification:
 
     kept = {}
 
-    def __init__(self, tree):
-        self.statement, self.counter, self.body, self.table = Statement(tree), Counter(), [], []
+    def __init__(self, tree, first=None):
+        is_same = first and not tree.replaced.keys() & first.asked
+        self.statement = first.statement if is_same else Statement(tree, first and first.statement)
+        self.asked = {*tree.asked}
+        self.counter, self.body, self.table = Counter(), [], []
         self.sections, self.theorem = sections_named(tree), 0
         self.body += ["## The theorem", ""]
         for number, (title, about, files) in enumerate(chapters_of(self.statement), 1):
@@ -325,7 +332,8 @@ class Specification:
             sources = Tree()
             made = Specification(sources)
             Specification.kept = {"made": made, "asked": sources.asked}
-        return Specification(tree) if tree.replaced.keys() & Specification.kept["asked"] else Specification.kept["made"]
+        made = Specification.kept["made"]
+        return Specification(tree, made) if tree.replaced.keys() & Specification.kept["asked"] else made
 
     def write(self, title, about, files):
         rows, total, count = [], 0, 0

@@ -49,7 +49,7 @@ class Code:
     """The types and functions of the crates."""
 
     def __init__(self, tree, specs):
-        self.tree, self.specs, self.library, self.types = tree, specs, Library(tree), {}
+        self.tree, self.specs, self.library, self.types = tree, specs, Library.of(tree), {}
 
     def file_of(self, crate, modules):
         path = f"crates/{crate}/src/{'/'.join(modules)}.rt" if modules else f"crates/{crate}/src/lib.rt"

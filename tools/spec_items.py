@@ -117,6 +117,14 @@ class SpecModule:
         for block in blocks(tokens, 0, len(tokens)):
             self.read_block(tokens, *block, [])
 
+    def names(self):
+        """What each name that others may use of it stands for: an item by its name, a path, or a module. Of two items the first counts, and before
+        what is passed on and modules."""
+        found = {**dict.fromkeys(self.modules, "a module"), **{name: ".".join(path) for name, path in self.passed.items()}}
+        for item in reversed(self.order):
+            found.update(dict.fromkeys([item.name, *item.constructors], item.name))
+        return found
+
     def read_block(self, tokens, first, last, sections):
         words = [it.text for it in tokens[first : min(first + 6, last)]]
         plain = [it for it in words if it not in MARKS]

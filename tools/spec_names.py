@@ -25,6 +25,20 @@ class Specs:
             self.kept[path, text] = SpecModule(crate, name, path, text.split("\n"))
         return self.kept[path, text]
 
+    def has_names_of(self, others):
+        """Whether each name of a file of others stands for the same here, so that what names it there and isn't replaced uses the same here."""
+        alike = {*self.modules} == {*others.modules}
+        return alike and all(self.modules[key] is it or it.names().items() <= self.modules[key].names().items() for key, it in others.modules.items())
+
+    def has_file_of(self, others, item):
+        """Whether this item's file is the one that others have."""
+        key = (item.module.crate, item.module.name)
+        return self.modules[key] is others.modules[key]
+
+    def here(self, found):
+        """What something that a name stood for in other files is in these."""
+        return ("item", self.modules[found[1].module.crate, found[1].module.name].items[found[1].name]) if found[0] == "item" else found
+
     def resolve(self, path):
         """What a path stands for: ("item", item), ("module", crate, name), ("rust", crate, path), or ("kit", name)."""
         if path[0] != "Rattle" or len(path) < 3 or path[1] not in self.crates:

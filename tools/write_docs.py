@@ -37,7 +37,7 @@ class Made:
     """What is made of the sources alone: each page by its path, and what is to be said of them."""
 
     def __init__(self, tree):
-        library = Library(tree)
+        library = Library.of(tree)
         items = Pages(library)
         self.pages = {**write_api(items), "docs/LIMITS.md": write_limits(tree, library), PAGE: write_specification(tree)}
         self.warnings = items.unnamed()
