@@ -7,7 +7,8 @@
    - a refusal: its offset is in the bytes, and the missing feature is one that was off;
    - room: nothing is written behind it, and less room gives the front of the same text and of the same ids.
 
-   With FUZZ_PRINT in the environment it prints the verdict of each input under all features, and tests nothing. */
+   With FUZZ_PRINT in the environment it prints the verdict of each input under all features, and tests nothing. With FUZZ_TRIED it keeps some of what is
+   tried in the folder of that name, behind as many inputs as FUZZ_SEEDS says. */
 #include "ruthvelka.h"
 #include <stdio.h>
 #include <stdlib.h>
@@ -181,6 +182,20 @@ static void check_types(const uint8_t *bytes, size_t length, uint64_t features, 
     ruthvelka_types_release(&types);
 }
 
+/* Keeps each module that is valid under all features, and of the others each eighth, until there are enough of them to compare. */
+static void keep_tried(const uint8_t *bytes, size_t length, uint64_t chance) {
+    static unsigned long long tried, kept;
+    const char *folder = getenv("FUZZ_TRIED"), *seeds = getenv("FUZZ_SEEDS");
+    char name[1024];
+    if (!folder || !seeds || tried++ <= strtoull(seeds, NULL, 10) || kept >= 8000) return;
+    if (chance % 8 && ruthvelka_validate(bytes, length, ALL, NULL, 0, NULL) != RUTHVELKA_VALID) return;
+    snprintf(name, sizeof name, "%s/%016llx", folder, (unsigned long long)chance);
+    FILE *file = fopen(name, "wb");
+    if (!file) return;
+    kept += fwrite(bytes, 1, length, file) == length;
+    fclose(file);
+}
+
 int LLVMFuzzerTestOneInput(const uint8_t *bytes, size_t length) {
     if (getenv("FUZZ_PRINT")) {
         printf("%s\n", ruthvelka_validate(bytes, length, ALL, NULL, 0, NULL) == RUTHVELKA_VALID ? "valid" : "invalid");
@@ -197,5 +212,6 @@ int LLVMFuzzerTestOneInput(const uint8_t *bytes, size_t length) {
     check_externs(bytes, length, more, &large);
     check_types(bytes, length, more, &large);
     check_ids(bytes, length, fewer, &small);
+    keep_tried(bytes, length, chance);
     return 0;
 }
