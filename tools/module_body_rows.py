@@ -1510,10 +1510,13 @@ def seldom():
     behind = W.build(types=['func ->', ['struct ?2', 'struct mut:?1'], 'func ?1 ->'], ntypes=4,
                      funcs=[(3, '', 'local.get 0; struct.get 1 0; struct.get 2 0; struct.get 1 0; drop')])
     alone = W.build(types=[self, 'func ?0 ->'], funcs=[(1, '', 'local.get 0; local.get 0; struct.get 0 0; struct.set 0 0')])
+    below = W.build(types=[self, 'func ?0 ->'], funcs=[(1, '', 'local.get 0; struct.get 0 0; struct.get 0 0; drop')])
     plain = W.build(types=['struct i32', 'struct ?0', 'func ?1 ->'], funcs=[(2, '', 'local.get 0; struct.get 1 0; struct.get 0 0; drop')])
     types = W.build(types=[ring])
+    whole = W.build(types=[ring + ['func ?0 ->']], ntypes=3, funcs=[(2, '', 'local.get 0; struct.get 0 0; struct.get 1 0; struct.get 0 0; drop')])
     for title, modules in [('a ring thrice', [used, used, used]), ('a ring, first alone', [types, used, types, used]),
-                           ('a ring at other places', [used, behind, used, wrong]), ('a type of itself', [alone, alone, plain, alone]),
+                           ('a ring with its function', [whole, whole, whole]),
+                           ('a ring at other places', [used, behind, used, wrong]), ('a type of itself', [alone, below, plain, below]),
                            ('a ring behind what refers to earlier types', [plain, used, plain, behind, alone]),
                            ('what refers to earlier types', [plain, plain, types, plain, used, plain])]:
         row('%s, in modules one after another' % title, *[Part(it, None, told='') for it in modules], features='all')
@@ -1535,6 +1538,9 @@ def seldom():
         row('a group that names its place as %s' % title, *[Part(used, told='')] * 3, features='all')
     exact = W.build(types=[[b'\x5f\1\x63\x62\1\0', 'struct i32'], 'func ->'], ntypes=3, funcs=[(2, '', 'ref.null 0; struct.get 0 0; struct.get 1 0; drop')])
     row('a group that names its place as an exact field', *[Part(exact, told='')] * 3, features='all')
+    families = W.build(types=[['sub[] struct i32', 'sub[0] struct i32 i64'], 'func ->'], ntypes=3,
+                       funcs=[(2, '', 'block =!0; struct.new_default 1; br 0; end; ref.cast 1; struct.get 1 1; drop')])
+    row('a group that names its place as a supertype', *[Part(families, told='')] * 3, features='all')
     described = W.build(types=[[b'\x4d\1\x5f\1\x7f\0', b'\x4c\0\x5f\0'], 'func ->'], ntypes=3, funcs=[(2, '', 'i32.const 0; x:d06201fb2000; drop')])
     row('a group that names its places as descriptor and described', *[Part(described, told='')] * 3, features='all')
 
