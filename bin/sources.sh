@@ -242,7 +242,7 @@ run_by_rt() {
             if [ -f "$it" ]; then words+=(--data "$it=$(realpath -- "$it")"); fi
             ;;
         esac
-        if [ "${files[-1]}" != "$it" ]; then echo "$name: the line of $it will begin with ${files[-1]}" >&2; fi
+        if [ "${files[-1]}" != "$it" ]; then LC_ALL=C printf '%s: the line of %q will begin with %q\n' "$name" "$it" "${files[-1]}" >&2; fi
     done
     (cd "$top/crates/$crate" && exec setsid rt try "${words[@]}" -- "${files[@]}") </dev/null 9>&- &
     wait $!
