@@ -1,6 +1,8 @@
 //! What a side table is made of.
 
-/// One branch of a body. Offsets count from where those of the instructions do.
+/// One branch of a body. Offsets count from where those of the instructions do. Its fields
+/// lie in memory as those of a `struct` of C do.
+#[repr(C)]
 #[derive(Clone, Copy, PartialEq, Eq, Debug)]
 pub struct Entry {
     /// The offset of the instruction that branches.
