@@ -59,9 +59,9 @@ operators-preserved-then-read_quiet g c =
     let counted : c.max-height.result ≡ max c.operators.height c.operand_stack_height.result = search rules in
     record {
       reaches = (
-          max high.0 (length (typed_state u).operands),
-          (λ l. count_more c.operators.height c.operand_stack_height.result high.0 (length (typed_state u).operands) high.1 c.operand_stack_height.ensures.few c.operand_stack_height.ensures.many (subst (λ (n : ℕ). n < 4294967295) counted l) ∙ sym counted),
-          table_more C v w old c.operators.invariant.kept u c.args.reader.now new (shown c.args.self.now) T T high.0 high.2 (quiet.advances T)
+        max high.0 (length (typed_state u).operands),
+        (λ l. count_more c.operators.height c.operand_stack_height.result high.0 (length (typed_state u).operands) high.1 c.operand_stack_height.ensures.few c.operand_stack_height.ensures.many (subst (λ (n : ℕ). n < 4294967295) counted l) ∙ sym counted),
+        table_more C v w old c.operators.invariant.kept u c.args.reader.now new (shown c.args.self.now) T T high.0 high.2 (quiet.advances T),
       );
       kept = kept_on v.stacks w.stacks u.stacks c.operators.invariant.kept (search rules);
       going = search rules;
@@ -112,9 +112,9 @@ operators-preserved-in-Yes g c =
     let counted : c.max-height-in-Yes.result ≡ max c.operators.height c.operand_stack_height-in-Yes.result = search rules in
     record {
       reaches = (
-          max high.0 (length (typed_state u).operands),
-          (λ l. count_more c.operators.height c.operand_stack_height-in-Yes.result high.0 (length (typed_state u).operands) high.1 c.operand_stack_height-in-Yes.ensures.few c.operand_stack_height-in-Yes.ensures.many (subst (λ (n : ℕ). n < 4294967295) counted l) ∙ sym counted),
-          table_more C v w old c.operators.invariant.kept u c.args.reader.now new (shown c.args.self.now) T U high.0 high.2 advances
+        max high.0 (length (typed_state u).operands),
+        (λ l. count_more c.operators.height c.operand_stack_height-in-Yes.result high.0 (length (typed_state u).operands) high.1 c.operand_stack_height-in-Yes.ensures.few c.operand_stack_height-in-Yes.ensures.many (subst (λ (n : ℕ). n < 4294967295) counted l) ∙ sym counted),
+        table_more C v w old c.operators.invariant.kept u c.args.reader.now new (shown c.args.self.now) T U high.0 high.2 advances,
       );
       kept = kept_on v.stacks w.stacks u.stacks c.operators.invariant.kept (kept_on w.stacks x.stacks u.stacks kept (search rules));
       going = search rules;
@@ -176,9 +176,9 @@ operators-preserved g c =
     let counted : c.max-height-in-operators.result ≡ max c.operators.height c.operand_stack_height-in-operators.result = search rules in
     record {
       reaches = (
-          max high.0 (length (typed_state u).operands),
-          (λ l. count_more c.operators.height c.operand_stack_height-in-operators.result high.0 (length (typed_state u).operands) high.1 c.operand_stack_height-in-operators.ensures.few c.operand_stack_height-in-operators.ensures.many (subst (λ (n : ℕ). n < 4294967295) counted l) ∙ sym counted),
-          table_more C v w old c.operators.invariant.kept u c.args.reader.now new (shown c.args.self.now) T U high.0 high.2 advances
+        max high.0 (length (typed_state u).operands),
+        (λ l. count_more c.operators.height c.operand_stack_height-in-operators.result high.0 (length (typed_state u).operands) high.1 c.operand_stack_height-in-operators.ensures.few c.operand_stack_height-in-operators.ensures.many (subst (λ (n : ℕ). n < 4294967295) counted l) ∙ sym counted),
+        table_more C v w old c.operators.invariant.kept u c.args.reader.now new (shown c.args.self.now) T U high.0 high.2 advances,
       );
       kept = kept_on v.stacks w.stacks u.stacks c.operators.invariant.kept (kept_on w.stacks y.stacks u.stacks kept (search rules));
       going = search rules;
