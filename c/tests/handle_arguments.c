@@ -164,6 +164,10 @@ static void try_wrong(void) {
     EXPECT_KEPT(ruthvelka_types_externs(&types, &outcome, imports, 4, exports, TOO_MANY(96), message, 4));
     EXPECT_KEPT(ruthvelka_types_externs(&types, &outcome, imports, 4, exports, 4, NULL, 1));
     EXPECT_KEPT(ruthvelka_types_externs(&types, &outcome, imports, 4, exports, 4, message, TOO_MANY(1)));
+    struct ruthvelka_outcome narrow = {.size = offsetof(struct ruthvelka_outcome, offset) - 1};
+    passed.name = NULL;
+    expect("an outcome without room for its status", ruthvelka_types_ids(&types, &narrow, type_ids, 4, function_ids, 4) == WRONG
+        && ruthvelka_types_externs(&types, &narrow, imports, 4, exports, 4, message, 4) == WRONG && !passed.name && !narrow.status);
     struct ruthvelka_signature signature = {sizeof signature, 7, 7};
     passed.name = retain.name = NULL;
     expect("signatures", ruthvelka_types_signature(NULL, 0, &signature, params, 4, results, 4) == WRONG
