@@ -19,7 +19,7 @@ use std::alloc::Allocator;
 use wasm_parser::FunctionBody;
 use wasm_readers::BinaryReader;
 use wasm_spec_side_tables::{Entry, Place};
-use wasm_validator_func::{FuncToValidate, FuncValidator, FuncValidatorAllocations, read_operator};
+use wasm_validator_func::{FuncToValidate, FuncValidator, FuncValidatorAllocations, read_served};
 use wasm_validator_resources::WasmModuleResources;
 
 /// An entry with the place of its number.
@@ -86,7 +86,7 @@ impl<A: Allocator> SideTable<A> {
         ensures further { OnOk result (position_in reader.old < position_in reader.new) }
     {
         let at = reader.original_position();
-        let op = match read_operator(reader) {
+        let op = match read_served(reader, *validator.features()) {
             Ok(op) => op,
             Err(refusal) => return Err(SideTableError::Refused(refusal)),
         };

@@ -9,6 +9,7 @@ mod branches;
 mod counts;
 mod error;
 mod fast;
+mod handlers;
 mod notes;
 mod table;
 
