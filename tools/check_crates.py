@@ -10,8 +10,11 @@ import re
 import sys
 
 ROOT = os.path.dirname(os.path.dirname(os.path.abspath(__file__)))
-MOST_WALKS, MOST_CRATES, MOST_LINES, MOST_FUNCTIONS = 3_400, 74, 1_500, 110
+MOST_WALKS, MOST_CRATES, MOST_LINES, MOST_FUNCTIONS = 3_400, 75, 1_500, 110
 ALL, MOST_WALKS_OF_ALL = "test_all", 9_200
+# The side table of a function stands over the validator and over side tables, and the C library over it and over handles; that has an export for
+# each call.
+MORE_WALKS, MORE_LINES = {"wasm_validator_tables": 4_500, "ruthvelka_c": 7_800}, {"ruthvelka_c": 1_600}
 # What is passed on for users alone: the condition of `FuncValidator::op`, which their contracts name.
 FOR_USERS = {("wasm_validator_func", "specs/Stepped")}
 LAYERS = ("wasm_spec", "wasm_readers", "wasm_operator", "wasm_items", "wasm_parser", "wasm_validat", "wasm_check", "wasm_laws_", "rows_", "test_all", "examples", "ruthvelka_c")
@@ -69,7 +72,7 @@ def main():
     graph = {name: [it for it in words if it in words_of] for name, words in words_of.items()}
     sources = {name: read_sources(name) for name in graph}
     walks, wrong = count_walks(graph), []
-    most = {ALL: MOST_WALKS_OF_ALL}
+    most = {ALL: MOST_WALKS_OF_ALL, **MORE_WALKS}
     wrong += [f"{name}: {count} walks lead down from it, more than {most.get(name, MOST_WALKS)}" for name, count in walks.items() if count > most.get(name, MOST_WALKS)]
     if len(graph) > MOST_CRATES:
         wrong.append(f"{len(graph)} crates, more than {MOST_CRATES}")
@@ -89,7 +92,7 @@ def main():
         lines, functions = sum(it.count("\n") for it in code), sum(len(re.findall(r"\bfn [a-z_0-9]+", it)) for it in code)
         if not name.startswith(LAYERS):
             wrong.append(f"{name}: its name begins with no layer's")
-        if lines > MOST_LINES or functions > MOST_FUNCTIONS:
+        if lines > MORE_LINES.get(name, MOST_LINES) or functions > MOST_FUNCTIONS:
             wrong.append(f"{name}: {lines} lines and {functions} functions, more than {MOST_LINES} or {MOST_FUNCTIONS}")
         for it in words_of[name]:
             is_named = re.search(rf"\b(?:{it}::|Rattle\.{it}\.)", whole[name])

@@ -90,15 +90,11 @@ fn load_body<'a, A: Allocator + Copy>(
         Ok(_memory) => {}
         Err(_) => return Err(Stopped::Unknown),
     }
-    let start = match body.get_binary_reader_for_operators() {
-        Ok(reader) => bytes.len() - reader.bytes_remaining(),
-        Err(_) => return Err(Stopped::Unknown),
-    };
     let mut entries = Vec::new(alloc);
     entries.extend_from_slice(table.entries())?;
     Ok(Code {
         bytes,
-        start,
+        start: table.first() as usize,
         params: 1,
         results: 1,
         locals: table.locals() as usize,

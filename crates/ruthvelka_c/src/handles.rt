@@ -121,7 +121,8 @@ fn tell_answer(
     }
 }
 
-fn error_status(error: &Error) -> u32
+/// The status of a refusal, and of want of memory.
+pub fn error_status(error: &Error) -> u32
     ensures { result ≡ error_status error.now }
 {
     match error {

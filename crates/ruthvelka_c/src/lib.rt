@@ -20,6 +20,7 @@ mod lists;
 mod queries;
 mod report;
 mod sections;
+mod side_tables;
 mod types;
 
 use answers::{answer_alone, answer_list, write_ids};

@@ -1,6 +1,8 @@
 //! What a side table is made of.
 
-/// One branch of a body. Offsets count from where those of the instructions do.
+/// One branch of a body. Offsets count from where those of the instructions do. C reads it as
+/// `struct ruthvelka_side_entry`.
+#[repr(C)]
 #[derive(Clone, Copy, PartialEq, Eq, Debug)]
 pub struct Entry {
     /// The offset of the instruction that branches.

@@ -23,7 +23,8 @@ use Rattle.wasm_spec_side_tables.specs.Building.{Built}
 use Rattle.wasm_spec_side_tables.proofs.Lists.{the_same, bind-gives}
 use Rattle.wasm_validator_side_table.specs.Shown.{nested_in, planned_in, noted_in, steps_to}
 use Rattle.wasm_validator_side_table.specs.Tables.{Advances}
-use Rattle.wasm_validator_side_table.specs.Fast.{IsQuiet, AdvancesQuietly}
+use Rattle.wasm_validator_side_table.specs.Fast.{IsQuiet, AdvancesQuietly, with_noted, nesting_of, Foresees}
+use Rattle.wasm_validator_side_table.specs.declared.frequent.Noted.{Noted}
 use Rattle.wasm_validator_side_table.proofs.Planning.{planned_none, noted_by}
 use Rattle.wasm_validator_side_table.proofs.Reaching.{places_add}
 
@@ -72,6 +73,15 @@ module _ {A : Type 0} (C : Context UnpackedIndex) (v w : OperatorValidator A) (r
     noted = noted_by C v (place_of_next r) (place_of_next q) x.op T U V e f;
     step = x.step;
   }
+
+  -- or by what was foreseen of it
+  noted_by_step : (T V : Built) (n : Noted) → SameInput r q → (x : Performs) → Foresees C v (place_of_next r) T (rest r) n → nested_in (nesting_of n) (place_of_next q) (with_noted n T) ≡ Some V → Goes T V
+  noted_by_step T V n same x f g =
+      let both = f.foreseen x.op (rest q) x.read in
+      goes_by T (with_noted n T) V same x both.0 (ap (λ (k : Nesting). nested_in k (place_of_next q) (with_noted n T)) both.1 ∙ g)
+
+  pub noted_so : (T V : Built) (n : Noted) → SameInput r q → Foresees C v (place_of_next r) T (rest r) n → nested_in (nesting_of n) (place_of_next q) (with_noted n T) ≡ Some V → stepped C v.stacks r ≡ Some (typed_state w, rest q) → Goes T V
+  noted_so T V n same f g p = noted_by_step T V n same (performs p) f g
 
   module _ (a : BinaryReader) (b : ℕ) where
     -- the instruction begins with this byte

@@ -2,5 +2,8 @@ pub mod Planning
 pub mod Opcodes
 pub mod Resolving
 pub mod Reaching
+pub mod Foreseeing
 pub mod Fasting
+pub mod Reading
+pub mod Looping
 pub mod Whole

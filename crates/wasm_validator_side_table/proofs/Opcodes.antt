@@ -14,28 +14,28 @@ use Rattle.wasm_spec_side_tables.specs.SideTables.{Branch, branches, Nesting, st
 use Rattle.wasm_spec_side_tables.proofs.Lists.{the_same}
 use Rattle.wasm_validator_side_table.specs.Fast.{IsQuiet}
 
-below : (b m : ℕ) → b < m → nat_lt b m ≡ true
+pub below : (b m : ℕ) → b < m → nat_lt b m ≡ true
 below b m h = grind (arith, nat_tests)
 
-not_below : (b m : ℕ) → m ≤ b → nat_lt b m ≡ false
+pub not_below : (b m : ℕ) → m ≤ b → nat_lt b m ≡ false
 not_below b m h = grind (arith, nat_tests)
 
-abbrev Read : Type 0
+abbrev pub Read : Type 0
 Read = Instruction ℕ × List ℕ
 
 -- what is read branches so, and does this to the blocks
-abbrev Does : List Branch → Nesting → Option Read → Type 0
+abbrev pub Does : List Branch → Nesting → Option Read → Type 0
 Does bs k o = (i : Instruction ℕ) (more : List ℕ) → o ≡ Some (i, more) → (branches i ≡ bs) × (nesting i ≡ k)
 
 -- one instruction that is read
-one : (bs : List Branch) (k : Nesting) (j : Instruction ℕ) (bytes : List ℕ) → branches j ≡ bs → nesting j ≡ k → Does bs k (Some (j, bytes))
+pub one : (bs : List Branch) (k : Nesting) (j : Instruction ℕ) (bytes : List ℕ) → branches j ≡ bs → nesting j ≡ k → Does bs k (Some (j, bytes))
 one bs k j bytes p q i more e =
     let same : j ≡ i = ap (λ (y : Read). y.0) (the_same (j, bytes) (i, more) e) in
     subst (λ (j : Instruction ℕ). (branches j ≡ bs) × (nesting j ≡ k)) same (p, q)
 
 -- all of a family
 module _ {X : Type 0} (bs : List Branch) (k : Nesting) (f : X → Instruction ℕ) (h : (x : X) → (branches (f x) ≡ bs) × (nesting (f x) ≡ k)) where
-  family : (o : Option (X × List ℕ)) → Does bs k (of_family f o)
+  pub family : (o : Option (X × List ℕ)) → Does bs k (of_family f o)
   family None i more e = absurd cc
   family (Some x) i more e = one bs k (f x.0) x.1 (h x.0).0 (h x.0).1 i more e
 
@@ -94,7 +94,7 @@ by_test : (c : Bool) (x y z : Option Read) → c ≡ true → (if c then x else 
 by_test true x y z e f = f
 by_test false x y z e f = absurd cc
 
-plainly : (b : ℕ) (bytes : List ℕ) (i : Instruction ℕ) (more : List ℕ) → b < 0xfb → instruction_at (λ n. n) (b ∷ bytes) ≡ Some (i, more) → plain_from (λ n. n) b bytes ≡ Some (i, more)
+pub plainly : (b : ℕ) (bytes : List ℕ) (i : Instruction ℕ) (more : List ℕ) → b < 0xfb → instruction_at (λ n. n) (b ∷ bytes) ≡ Some (i, more) → plain_from (λ n. n) b bytes ≡ Some (i, more)
 unfolding instruction_at
 plainly b bytes i more h e = by_test (nat_lt b 0xfb) (plain_from (λ n. n) b bytes) _ (Some (i, more)) (below b 0xfb h) e
 

@@ -46,6 +46,10 @@ module _ {A : Type 0} (C : Context UnpackedIndex) (v : OperatorValidator A) (at 
   alone T U None e = absent U e
   alone T U (Some x) e = (x, refl, the_same (with_one T x) U e)
 
+  -- one branch alone
+  pub planned_alone : (b : Branch) (T : Built) (e : Entry) → planned_one C v at b T ≡ Some e → planned_in C v at (b ∷ []) T ≡ Some (with_one T e)
+  planned_alone b T e p = ap (λ (o : Option Entry). (o >>= λ x. in_front x []) >>= onto T) p
+
   behind_one : (T : Built) (x : Entry) (more : Option (List Entry)) → ((more >>= in_front x) >>= onto T) ≡ (more >>= onto (with_one T x))
   behind_one T x None = refl
   behind_one T x (Some es) = ap (λ (xs : List Entry). Some (record { entries = xs; nest = T.nest })) (sym (append_assoc T.entries (x ∷ []) es))

@@ -1,5 +1,5 @@
 -- One instruction more.
-use Rattle.std.proofs.Common.{◌≡◌, ◌≤◌, refl, sym, ap, subst, ◌∙◌, ℕ, ◌+◌, max, false, List, [], ◌∷◌, ◌++◌, length, Option, Some, Ok, arith, option_map}
+use Rattle.std.proofs.Common.{◌≡◌, ◌≤◌, refl, sym, ap, subst, ◌∙◌, ℕ, ◌+◌, max, false, List, [], ◌∷◌, ◌++◌, length, Option, Some, Result, Ok, arith, option_map}
 use Rattle.std.proofs.lemmas.List.{length-drop}
 use Rattle.wasm_readers.specs.Written.{written}
 use Rattle.wasm_readers.specs.WasmReadersBytes.Reader.{SameInput, input, original, position_in, place_of_next, rest}
@@ -12,7 +12,8 @@ use Rattle.wasm_operators.specs.declared.operators.Operator.{Operator}
 use Rattle.wasm_operators.proofs.Renamings.{instruction-renames}
 use Rattle.wasm_validator_resources.specs.Answers.{world, written_index}
 use Rattle.wasm_operator_validator.specs.Typed.{typed_state}
-use Rattle.wasm_operator_validator.specs.Checked.{within}
+use Rattle.wasm_operator_validator.specs.Checked.{within, TookAt}
+use Rattle.wasm_readers_errors.specs.declared.error.Error.{Error}
 use Rattle.wasm_operator_validator.specs.Visited.{StepsAt}
 use Rattle.wasm_operator_validator.specs.declared.validator.OperatorValidator.{OperatorValidator}
 use Rattle.wasm_validator_func.proofs.Stepping.{took}
@@ -96,6 +97,9 @@ module _ {A : Type 0} (C : Context UnpackedIndex) (v w : OperatorValidator A) (o
   pub took_is : (offset : ℕ) (x : Unit {0}) → (v.failed ≡ false → StepsAt (Ok x) offset C (operator_of op) v.stacks w.stacks) → v.failed ≡ false → steps_to C v (instruction_of op) ≡ Some (typed_state w)
   took_is offset x s e = took offset C (operator_of op) v.stacks w.stacks (Ok x) (s e)
 
+  pub took_at : (offset : ℕ) (r : Result (Unit {0}) Error) → (v.failed ≡ false → StepsAt r offset C (operator_of op) v.stacks w.stacks) → v.failed ≡ false → TookAt offset r (steps_to C v (instruction_of op)) (typed_state w)
+  took_at offset r s e = took offset C (operator_of op) v.stacks w.stacks r (s e)
+
   pub advances_is :
       (T U : Built) (r q : BinaryReader) (at behind : ℕ) → SameInput r q → instruction_at written (rest r) ≡ Some (operator_of op, rest q) → at ≡ original r + position_in r → behind ≡ original q + position_in q
       → noted_in C v (placed at behind op) T ≡ Some U → steps_to C v (instruction_of op) ≡ Some (typed_state w)
@@ -112,6 +116,6 @@ module _ {A : Type 0} (C : Context UnpackedIndex) (v w : OperatorValidator A) (o
     step = p;
   }
 
-pub ruleset stepping = (took_is)
+pub ruleset stepping = (took_at)
 
 pub ruleset advancing = (advances_is)

@@ -1,9 +1,12 @@
--- The table of a whole body.
-use Rattle.std.proofs.Common.{◌≡◌, refl, sym, ap, subst, ◌∙◌, ℕ, arith, List, [], ◌∷◌, length, Option, Some}
+-- The table of a whole body, and what its answer says.
+use Rattle.std.proofs.Common.{◌≡◌, ◌≤◌, ◌<◌, ◌^◌, refl, sym, ap, subst, ◌∙◌, ℕ, ◌+◌, arith, List, [], ◌∷◌, length, Option, Some, Result, Ok, Err}
+use Rattle.std.proofs.lemmas.List.{length-drop}
 use Rattle.wasm_spec_rules.specs.Contexts.{Context}
 use Rattle.wasm_spec_rules.specs.Attempts.{◌>>=◌}
 use Rattle.wasm_spec_rules.specs.FeatureFlags.{features_of}
-use Rattle.wasm_readers.specs.WasmReadersBytes.Reader.{SameInput, place_of_next, rest}
+use Rattle.wasm_readers_errors.specs.declared.error.Error.{Error}
+use Rattle.wasm_readers_errors.specs.declared.error.Error.TheVariants.{Refused, OutOfMemory}
+use Rattle.wasm_readers.specs.WasmReadersBytes.Reader.{SameInput, input, original, position_in, place_of_next, rest}
 use Rattle.wasm_readers.specs.WasmReadersBytes.declared.binary_reader.BinaryReader.{BinaryReader}
 use Rattle.wasm_readers_types.specs.WasmReadersValues.declared.indices.UnpackedIndex.{UnpackedIndex}
 use Rattle.wasm_operators.specs.Control.{func_block}
@@ -11,52 +14,85 @@ use Rattle.wasm_operator_steps.specs.Bodies.{Local}
 use Rattle.wasm_operator_steps.specs.Machine.{State}
 use Rattle.wasm_operator_steps.specs.Steps.{start}
 use Rattle.wasm_validator_resources.specs.Answers.{world}
-use Rattle.wasm_operator_stacks.specs.Seen.{Kept}
 use Rattle.wasm_operator_validator.specs.Typed.{typed_state, locals_in, BeginsBody}
 use Rattle.wasm_operator_validator.specs.Checked.{within}
 use Rattle.wasm_operator_validator.specs.declared.validator.OperatorValidator.{OperatorValidator}
 use Rattle.wasm_validator_func.specs.Bodies.{locals_from}
-use Rattle.wasm_validator_func.specs.Validated.{listed_in, Goes}
+use Rattle.wasm_validator_func.specs.Functions.{Refuses, Decides, StandsInOrFirst}
 use Rattle.wasm_spec_side_tables.specs.SideTables.{side_table, greatest_height}
 use Rattle.wasm_spec_side_tables.specs.Building.{Built, resolved_each, begun, built}
 use Rattle.wasm_spec_side_tables.proofs.Entries.{tables_are_right}
+use Rattle.wasm_validator_side_table.specs.Answers.{told, end_of, Makes, StandsSo}
 use Rattle.wasm_validator_side_table.specs.Shown.{shown}
-use Rattle.wasm_validator_side_table.specs.Tables.{AreAt, Reaches, IsTableOf}
+use Rattle.wasm_validator_side_table.specs.Tables.{AreAt, HasRead, IsTableOf}
+use Rattle.wasm_validator_side_table.specs.declared.error.SideTableError.{SideTableError}
+use Rattle.wasm_validator_side_table.specs.declared.error.SideTableError.TheVariants.{TooLarge}
 use Rattle.wasm_validator_side_table.specs.declared.table.SideTable.{SideTable}
-use Rattle.wasm_validator_side_table.proofs.Reaching.{places_add}
 
 pub table_is :
-    {A X : Type 0} (C : Context UnpackedIndex) (n : ℕ) (v0 v1 v2 : OperatorValidator X) (t1 t2 t3 : SideTable A) (r0 r1 r2 : BinaryReader)
-    → BeginsBody v0 C n → listed_in v0 C (rest r0) ≡ Some (locals_in v1, rest r1) → Goes v0 v1 → typed_state v1 ≡ typed_state v0 → SameInput r0 r1 → shown t1 ≡ begun
-    → Reaches (world C) (within v1 C) (typed_state v1) (shown t1) (place_of_next r1) (rest r1) (typed_state v2) (shown t2) t2.operands (place_of_next r2) (rest r2)
-    → rest r2 ≡ [] → Kept v1.stacks v2.stacks → resolved_each t2.places.items t2.entries.items ≡ Some t3.entries.items → t2.blocks ≡ [] → t3.operands ≡ t2.operands → t3.locals ≡ length (locals_in v2)
-    → IsTableOf (features_of v0.stacks.features) C n (place_of_next r0) (rest r0) t3
-table_is C n v0 v1 v2 t1 t2 t3 r0 r1 r2 begins listed goes state same first reaches empty kept resolved closed operands locals =
+    {A X : Type 0} (C : Context UnpackedIndex) (n : ℕ) (v w : OperatorValidator X) (T : Built) (t last : SideTable A) (r : BinaryReader)
+    → BeginsBody v C n → T ≡ begun → HasRead C v w T t r → resolved_each t.places.items t.entries.items ≡ Some last.entries.items → t.blocks ≡ [] → last.operands ≡ t.operands → last.locals ≡ length (locals_in w)
+    → last.first ≡ t.first → last.end ≡ t.end → IsTableOf (features_of v.stacks.features) C n (place_of_next r) (rest r) last
+table_is C n v w T t last r begins fresh read resolved closed operands locals first end =
     let W = world C in
-    let B = within v1 C in
-    let is = reaches.instructions in
-    let at_start : typed_state v1 ≡ start (func_block n) = state ∙ begins.state in
-    let all : built W B (typed_state v1) begun is ≡ Some (typed_state v2, shown t2) = subst (λ (T : Built). built W B (typed_state v1) T is ≡ Some (typed_state v2, shown t2)) first reaches.built in
-    let right : side_table W B (typed_state v1) is ≡ Some t3.entries.items = sym (tables_are_right UnpackedIndex W B (typed_state v1) (typed_state v2) is (shown t2) all closed) ∙ resolved in
-    let height : greatest_height W B 0 (typed_state v1) is ≡ Some t3.operands = reaches.highest ∙ ap (λ (h : ℕ). Some h) (sym operands) in
+    let d = read.declared in
+    let B = within d C in
+    let is = read.reaches.instructions in
+    let at_start : typed_state d ≡ start (func_block n) = read.state ∙ begins.state in
+    let all : built W B (typed_state d) begun is ≡ Some (typed_state w, shown t) = subst (λ (U : Built). built W B (typed_state d) U is ≡ Some (typed_state w, shown t)) fresh read.reaches.built in
+    let right : side_table W B (typed_state d) is ≡ Some last.entries.items = sym (tables_are_right UnpackedIndex W B (typed_state d) (typed_state w) is (shown t) all closed) ∙ resolved in
+    let height : greatest_height W B 0 (typed_state d) is ≡ Some last.operands = read.reaches.highest ∙ ap (λ (h : ℕ). Some h) (sym operands) in
     record {
       surroundings = B;
       instructions = is;
-      behind = rest r1;
-      first = place_of_next r1;
-      end = place_of_next r2;
-      features = ap features_of goes.features;
+      behind = read.behind;
+      first = read.first;
+      end = read.end;
+      features = ap features_of read.goes.features;
       context = refl;
-      shared = ap Some goes.shared ∙ begins.shared;
-      locals = ap (λ (o : Option (List (Local UnpackedIndex))). o >>= λ ls. locals_from (features_of v0.stacks.features) C.types ls (rest r0)) (sym begins.locals) ∙ listed;
-      begin = places_add r0 r1 same;
-      are = subst (λ (xs : List ℕ). AreAt is (place_of_next r1) (rest r1) (place_of_next r2) xs) empty reaches.are;
-      entries = subst (λ (s : State UnpackedIndex). side_table W B s is ≡ Some t3.entries.items) at_start right;
-      operands = subst (λ (s : State UnpackedIndex). greatest_height W B 0 s is ≡ Some t3.operands) at_start height;
-      count = locals ∙ ap (λ (ls : List (Local UnpackedIndex)). length ls) kept.content;
+      shared = ap Some read.goes.shared ∙ begins.shared;
+      locals = ap (λ (o : Option (List (Local UnpackedIndex))). o >>= λ ls. locals_from (features_of v.stacks.features) C.types ls (rest r)) (sym begins.locals) ∙ read.listed;
+      begin = read.begin;
+      are = read.reaches.are;
+      entries = subst (λ (s : State UnpackedIndex). side_table W B s is ≡ Some last.entries.items) at_start right;
+      operands = subst (λ (s : State UnpackedIndex). greatest_height W B 0 s is ≡ Some last.operands) at_start height;
+      count = locals ∙ ap (λ (ls : List (Local UnpackedIndex)). length ls) read.kept.content;
+      begins = first ∙ read.begins;
+      ends = end ∙ read.ends;
     }
 
 -- nothing is left to read
 pub nothing_left : (xs : List ℕ) → length xs ≡ 0 → xs ≡ []
 nothing_left [] e = refl
 nothing_left (x ∷ xs) e = absurd (omega arith)
+
+-- where a reader's input ends
+pub end_is : (r : BinaryReader) → original r + length (input r) ≡ end_of r
+end_is r =
+    let a = length-drop (position_in r) (input r) in
+    let b : position_in r ≤ length (input r) = r.within in
+    omega arith
+
+-- what the answer on a body says of its table
+pub makes : {X : Type 0} (P : Type 0) (r : BinaryReader) (x : X) → end_of r < 2 ^ 32 → P → Makes P r (Ok x)
+makes P r x few p = (p, few)
+
+pub too_large : (X : Type 0) (P : Type 0) (r : BinaryReader) → 2 ^ 32 ≤ end_of r → P → Makes {X = X} P r (Err TooLarge)
+too_large X P r many p = (p, many)
+
+pub makes_none : (X : Type 0) (P : Type 0) (r : BinaryReader) (e : Error) → Refuses P e → Makes {X = X} P r (Err (told e))
+makes_none X P r (Refused f) h = h
+makes_none X P r OutOfMemory h = tt
+
+pub stands_so : (r : BinaryReader) (e : Error) → StandsInOrFirst r e → StandsSo r (told e)
+stands_so r (Refused f) h = h
+stands_so r OutOfMemory h = tt
+
+-- where the body ends
+pub ends_low : (r : BinaryReader) (end : ℕ) → end ≡ original r + length (input r) → end ≤ 4294967295 → end_of r < 2 ^ 32
+ends_low r end e h = subst (λ (n : ℕ). n < 2 ^ 32) (e ∙ end_is r) (omega (arith, h))
+
+pub ends_high : (r : BinaryReader) (end : ℕ) → end ≡ original r + length (input r) → 4294967295 < end → 2 ^ 32 ≤ end_of r
+ends_high r end e h = subst (λ (n : ℕ). 2 ^ 32 ≤ n) (e ∙ end_is r) (omega (arith, h))
+
+pub ruleset answers = (makes_none, stands_so)

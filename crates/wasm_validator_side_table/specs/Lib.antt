@@ -1,3 +1,4 @@
 pub mod Shown
 pub mod Tables
 pub mod Fast
+pub mod Answers

@@ -3,9 +3,7 @@ use Rattle.std.specs.Prelude.{ℕ, List, ◌++◌, length, Option, Some, slice_g
 use Rattle.std.specs.Option.{option_map}
 use Rattle.wasm_spec_rules.specs.Contexts.{Context}
 use Rattle.wasm_spec_rules.specs.Attempts.{◌>>=◌}
-use Rattle.wasm_spec_rules.specs.Signatures.{Signature}
 use Rattle.wasm_readers_types.specs.WasmReadersValues.declared.indices.UnpackedIndex.{UnpackedIndex}
-use Rattle.wasm_operators.specs.Control.{Block}
 use Rattle.wasm_operators.specs.Instructions.{Instruction}
 use Rattle.wasm_operators.specs.Maps.{map_instruction}
 use Rattle.wasm_operators.specs.SeenOperators.{operator_of}
@@ -33,13 +31,6 @@ instruction_of op = map_instruction written_index (operator_of op)
 
 abbrev pub placed : ℕ → ℕ → Operator → Placed
 placed at behind op = record { op = instruction_of op; at = at; behind = behind }
-
--- how many parameters and results a block has
-abbrev pub both_lengths : Signature UnpackedIndex → ℕ × ℕ
-both_lengths g = (length g.takes, length g.gives)
-
-abbrev pub lengths_in : Context UnpackedIndex → Block UnpackedIndex → Option (ℕ × ℕ)
-lengths_in C b = option_map both_lengths (signature_in C b)
 
 -- how many operands a branch to a label gives it, and how many stand below its frame
 abbrev pub label_in : Context UnpackedIndex → State UnpackedIndex → ℕ → Option (ℕ × ℕ)

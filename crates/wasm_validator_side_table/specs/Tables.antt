@@ -13,10 +13,17 @@ use Rattle.wasm_operator_steps.specs.Machine.{State}
 use Rattle.wasm_operator_steps.specs.Steps.{start, step_in}
 use Rattle.wasm_validator_resources.specs.Answers.{world, sub_in}
 use Rattle.wasm_operator_validator.specs.WasmOperatorControl.Blocks.{function_in}
-use Rattle.wasm_operator_validator.specs.Typed.{parameter}
+use Rattle.wasm_readers.specs.WasmReadersBytes.Reader.{place_of_next, rest}
+use Rattle.wasm_readers.specs.WasmReadersBytes.declared.binary_reader.BinaryReader.{BinaryReader}
+use Rattle.wasm_operator_stacks.specs.Seen.{Kept}
+use Rattle.wasm_operator_validator.specs.Typed.{parameter, typed_state, locals_in}
+use Rattle.wasm_operator_validator.specs.Checked.{within}
+use Rattle.wasm_operator_validator.specs.declared.validator.OperatorValidator.{OperatorValidator}
 use Rattle.wasm_validator_func.specs.Bodies.{locals_from}
+use Rattle.wasm_validator_func.specs.Validated.{listed_in, Goes}
 use Rattle.wasm_spec_side_tables.specs.SideTables.{Placed, side_table, greatest_height}
 use Rattle.wasm_spec_side_tables.specs.Building.{Built, noted, built}
+use Rattle.wasm_validator_side_table.specs.Shown.{shown}
 use Rattle.wasm_validator_side_table.specs.declared.table.SideTable.{SideTable}
 
 -- the instruction at the front of bytes, the first of which has this offset
@@ -46,6 +53,21 @@ module _ (W : World UnpackedIndex) (B : Surroundings UnpackedIndex) where
     pub built : built W B s T instructions ≡ Some (t, U)
     pub highest : greatest_height W B 0 s instructions ≡ Some height
 
+-- From where a validator and a table began, all of this reader's bytes were read: declarations of locals, and instructions behind them.
+pub record HasRead {A X : Type 0} (C : Context UnpackedIndex) (v w : OperatorValidator X) (T : Built) (t : SideTable A) (r : BinaryReader) : Type 0 where
+  pub declared : OperatorValidator X
+  pub goes : Goes v declared
+  pub state : typed_state declared ≡ typed_state v
+  pub behind : List ℕ
+  pub first : ℕ
+  pub listed : listed_in v C (rest r) ≡ Some (locals_in declared, behind)
+  pub begin : first + length behind ≡ place_of_next r + length (rest r)
+  pub end : ℕ
+  pub reaches : Reaches (world C) (within declared C) (typed_state declared) T first behind (typed_state w) (shown t) t.operands end []
+  pub kept : Kept declared.stacks w.stacks
+  pub begins : t.first ≡ first
+  pub ends : t.end ≡ end
+
 -- The table of the body of a function of the type with this index: over its parameters and the locals that the bytes begin with, it is
 -- the side table of the instructions behind them, which are all of the bytes.
 pub record IsTableOf {A : Type 0} (F : Features) (C : Context UnpackedIndex) (n at : ℕ) (bytes : List ℕ) (t : SideTable A) : Type 0 where
@@ -63,3 +85,13 @@ pub record IsTableOf {A : Type 0} (F : Features) (C : Context UnpackedIndex) (n 
   pub entries : side_table (world C) surroundings (start (func_block n)) instructions ≡ Some t.entries.items
   pub operands : greatest_height (world C) surroundings 0 (start (func_block n)) instructions ≡ Some t.operands
   pub count : t.locals ≡ length surroundings.locals
+  pub begins : t.first ≡ first
+  pub ends : t.end ≡ end
+
+-- nothing stands in it
+pub record IsEmptyTable {A : Type 0} (t : SideTable A) : Type 0 where
+  pub entries : t.entries.items ≡ []
+  pub operands : t.operands ≡ 0
+  pub locals : t.locals ≡ 0
+  pub first : t.first ≡ 0
+  pub end : t.end ≡ 0

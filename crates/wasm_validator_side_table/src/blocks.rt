@@ -5,9 +5,8 @@ ghost use Rattle.wasm_spec_side_tables.specs.SideTables.{opens, opens_loop, turn
 ghost use Rattle.wasm_validator_side_table.specs.Shown.{shown, place_in, nested_in};
 
 use crate::counts::narrow;
-use crate::error::SideTableError;
 use crate::table::SideTable;
-use std::alloc::Allocator;
+use std::alloc::{AllocError, Allocator};
 use wasm_spec_side_tables::{OpenBlock, Place};
 
 /// Fills in the place of a number, if there is such a place.
@@ -32,19 +31,19 @@ impl<A: Allocator> SideTable<A> {
     }
 
     /// A block opens behind this offset.
-    pub(crate) fn open_block(&mut self, is_loop: bool, behind: u32) -> Result<(), SideTableError>
+    pub(crate) fn open_block(&mut self, is_loop: bool, behind: u32) -> Result<(), AllocError>
         ensures nested { OnOk result (nested_in (if is_loop then opens_loop else opens) behind (shown self.old)
             ≡ Some (shown self.new)) }
         ensures operands { OnOk result (self.new.operands ≡ self.old.operands) }
     {
         let Some(place) = self.place_behind(behind) else {
-            return Err(SideTableError::TooLarge);
+            return Err(AllocError);
         };
         let Some(label) = narrow(self.places.len()) else {
-            return Err(SideTableError::TooLarge);
+            return Err(AllocError);
         };
         let Some(other) = label.checked_add(1) else {
-            return Err(SideTableError::TooLarge);
+            return Err(AllocError);
         };
         let block = OpenBlock {
             label,
@@ -52,27 +51,27 @@ impl<A: Allocator> SideTable<A> {
             is_loop,
         };
         if self.places.push(place).is_err() || self.places.push(place).is_err() {
-            return Err(SideTableError::OutOfMemory);
+            return Err(AllocError);
         }
         match self.blocks.push(block) {
             Ok(()) => Ok(()),
-            Err(_) => Err(SideTableError::OutOfMemory),
+            Err(_) => Err(AllocError),
         }
     }
 
     /// A block turns to its `else`, or to a `catch`, behind this offset.
-    pub(crate) fn turn_block(&mut self, behind: u32) -> Result<(), SideTableError>
+    pub(crate) fn turn_block(&mut self, behind: u32) -> Result<(), AllocError>
         ensures nested { OnOk result (nested_in turns behind (shown self.old) ≡ Some (shown self.new)) }
         ensures operands { OnOk result (self.new.operands ≡ self.old.operands) }
     {
         let Some(place) = self.place_behind(behind) else {
-            return Err(SideTableError::TooLarge);
+            return Err(AllocError);
         };
         let Some(block) = self.blocks.pop() else {
-            return Err(SideTableError::TooLarge);
+            return Err(AllocError);
         };
         if block.is_loop {
-            return Err(SideTableError::TooLarge);
+            return Err(AllocError);
         }
         fill(&mut self.places, block.other, place);
         let turned = OpenBlock {
@@ -82,20 +81,20 @@ impl<A: Allocator> SideTable<A> {
         };
         match self.blocks.push(turned) {
             Ok(()) => Ok(()),
-            Err(_) => Err(SideTableError::OutOfMemory),
+            Err(_) => Err(AllocError),
         }
     }
 
     /// A block closes behind this offset.
-    pub(crate) fn close_block(&mut self, behind: u32) -> Result<(), SideTableError>
+    pub(crate) fn close_block(&mut self, behind: u32) -> Result<(), AllocError>
         ensures nested { OnOk result (nested_in closes behind (shown self.old) ≡ Some (shown self.new)) }
         ensures operands { OnOk result (self.new.operands ≡ self.old.operands) }
     {
         let Some(place) = self.place_behind(behind) else {
-            return Err(SideTableError::TooLarge);
+            return Err(AllocError);
         };
         let Some(block) = self.blocks.pop() else {
-            return Err(SideTableError::TooLarge);
+            return Err(AllocError);
         };
         if !block.is_loop {
             fill(&mut self.places, block.label, place);

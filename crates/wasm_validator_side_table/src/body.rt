@@ -1,23 +1,31 @@
 //! Whole bodies.
 
-ghost use Rattle.std.specs.Prelude.{◌≡◌, ◌<◌, [], false, max, length, OnOk, Some};
+ghost use Rattle.std.specs.Prelude.{◌≡◌, ◌<◌, ◌≤◌, [], true, false, max, length, OnOk, OnErr, IfErr, Some, None};
 ghost use Rattle.wasm_spec_rules.specs.FeatureFlags.{features_of};
 ghost use Rattle.wasm_readers.specs.WasmReadersBytes.Reader.{SameInput, position_in, place_of_next, rest};
 ghost use Rattle.wasm_parser.specs.Seen.{body_of, body_reader};
 ghost use Rattle.wasm_validator_resources.specs.Answers.{world};
 ghost use Rattle.wasm_operator_stacks.specs.Seen.{Kept};
-ghost use Rattle.wasm_operator_validator.specs.Typed.{typed_state};
-ghost use Rattle.wasm_operator_validator.specs.Checked.{within};
+ghost use Rattle.wasm_operator_validator.specs.Typed.{typed_state, locals_in};
+ghost use Rattle.wasm_operator_validator.specs.Checked.{within, IsRefusedAt, StandsIn, ReadsTo};
+ghost use Rattle.wasm_operator_validator.specs.Reads.{ReadsStep, stepped};
+ghost use Rattle.wasm_validator_func.specs.Bodies.{instructions_from};
+ghost use Rattle.wasm_validator_func.specs.Functions.{IsFunctionBody};
+ghost use Rattle.wasm_validator_func.specs.Validated.{body_in, Validates};
 ghost use Rattle.wasm_spec_side_tables.specs.Building.{resolved, resolved_each};
+ghost use Rattle.wasm_validator_side_table.specs.Answers.{Makes, StandsSo};
 ghost use Rattle.wasm_validator_side_table.specs.Shown.{shown};
-ghost use Rattle.wasm_validator_side_table.specs.Tables.{Advances, Reaches, IsTableOf};
+ghost use Rattle.wasm_validator_side_table.specs.Tables.{Advances, Reaches, HasRead, IsTableOf, IsEmptyTable};
 
+use crate::counts::narrow_offset;
 use crate::error::{SideTableError, of_validator};
 use crate::fast::read_quiet;
+use crate::frequent::Taken;
 use crate::table::SideTable;
 use std::alloc::Allocator;
 use wasm_parser::FunctionBody;
 use wasm_readers::BinaryReader;
+use wasm_readers_errors::{Error, Fault, OperatorRule, Refusal};
 use wasm_spec_side_tables::{Entry, Place};
 use wasm_validator_func::{FuncToValidate, FuncValidator, FuncValidatorAllocations, read_operator};
 use wasm_validator_resources::WasmModuleResources;
@@ -36,32 +44,38 @@ fn resolve(places: &[Place], entry: Entry) -> Option<Entry>
     })
 }
 
+/// The refusal of bytes behind the end of a body, at the first of them.
+fn behind_end(offset: u64) -> Error
+    ensures { IsRefusedAt offset result }
+{
+    Error::Refused(Refusal::new(Fault::Operator(OperatorRule::Ended, 0), offset))
+}
+
 impl<A: Allocator> SideTable<A> {
-    /// Puts the places into the entries, once all blocks are closed.
-    ///
-    /// # Errors
-    ///
-    /// Refuses a table in which a block is open.
+    /// Puts the places into the entries, where all blocks are closed, and says whether that was done.
     #[tactic(auto, using(crate::proofs::Resolving::resolving))]
-    pub fn finish(&mut self) -> Result<(), SideTableError>
-        ensures resolved { OnOk result (resolved_each self.old.places.items self.old.entries.items
-            ≡ Some self.new.entries.items) }
-        ensures closed { OnOk result (self.old.blocks ≡ []) }
-        ensures operands { self.new.operands ≡ self.old.operands }
-        ensures locals { self.new.locals ≡ self.old.locals }
+    pub fn finish(&mut self) -> bool
+        ensures resolved { result ≡ true → resolved_each self.old.places.items
+            self.old.entries.items ≡ Some self.new.entries.items }
+        ensures closed { result ≡ true → self.old.blocks ≡ [] }
+        ensures not_done { result ≡ false → self.old.blocks ≡ []
+            → resolved_each self.old.places.items self.old.entries.items ≡ None }
+        ensures counts { (self.new.operands ≡ self.old.operands)
+            × (self.new.locals ≡ self.old.locals) }
+        ensures places { (self.new.first ≡ self.old.first) × (self.new.end ≡ self.old.end) }
     {
         if self.blocks.len() != 0 {
-            return Err(SideTableError::TooLarge);
+            return false;
         }
         let mut i = 0usize;
         'entries: while i < self.entries.len() {
             match resolve(self.places.as_slice(), self.entries[i]) {
                 Some(entry) => self.entries[i] = entry,
-                None => return Err(SideTableError::TooLarge),
+                None => return false,
             }
             i += 1;
         }
-        Ok(())
+        true
     }
 
     /// Notes the next operator, and lets the validator take its step.
@@ -70,65 +84,37 @@ impl<A: Allocator> SideTable<A> {
         &mut self,
         validator: &mut FuncValidator<T, B>,
         reader: &mut BinaryReader<'a>,
-    ) -> Result<(), SideTableError>
+    ) -> Result<(), Error>
         requires { validator.old.validator.failed ≡ false }
         ensures advances { OnOk result (Advances (world (T.context validator.old.resources))
             (within validator.old.validator (T.context validator.old.resources))
             (typed_state validator.old.validator) (shown self.old) (place_of_next reader.old)
             (rest reader.old) (typed_state validator.new.validator) (shown self.new)
             (place_of_next reader.new) (rest reader.new)) }
-        ensures raised { OnOk result (self.new.operands ≡ max self.old.operands
-            (length (typed_state validator.new.validator).operands)) }
+        ensures took { ReadsStep result (stepped (T.context validator.old.resources)
+            validator.old.validator.stacks reader.old) (typed_state validator.new.validator)
+            (rest reader.new) }
         ensures going { OnOk result (validator.new.validator.failed ≡ false) }
         ensures kept { Kept validator.old.validator.stacks validator.new.validator.stacks }
         ensures resources { validator.new.resources ≡ validator.old.resources }
         ensures input { SameInput reader.old reader.new }
         ensures further { OnOk result (position_in reader.old < position_in reader.new) }
+        ensures place { IfErr result (StandsIn reader.old) }
     {
-        let at = reader.original_position();
+        let start = reader.original_position();
         let op = match read_operator(reader) {
             Ok(op) => op,
-            Err(refusal) => return Err(SideTableError::Refused(refusal)),
+            Err(refusal) => return Err(Error::Refused(refusal)),
         };
-        let behind = reader.original_position();
+        let end = reader.original_position();
+        let Some(at) = narrow_offset(start) else {
+            return Err(Error::OutOfMemory);
+        };
+        let Some(behind) = narrow_offset(end) else {
+            return Err(Error::OutOfMemory);
+        };
         match self.op(validator, at, behind, &op) {
             Ok(()) => Ok(()),
-            Err(error) => Err(error),
-        }
-    }
-
-    /// Notes the next operator, and lets the validator take its step: fast, where it is a frequent one
-    /// that branches nowhere and leaves the blocks as they are.
-    #[inline(always)]
-    fn read_next<'a, T: WasmModuleResources, B: Allocator>(
-        &mut self,
-        validator: &mut FuncValidator<T, B>,
-        reader: &mut BinaryReader<'a>,
-    ) -> Result<(), SideTableError>
-        requires { validator.old.validator.failed ≡ false }
-        ensures advances { OnOk result (Advances (world (T.context validator.old.resources))
-            (within validator.old.validator (T.context validator.old.resources))
-            (typed_state validator.old.validator) (shown self.old) (place_of_next reader.old)
-            (rest reader.old) (typed_state validator.new.validator) (shown self.new)
-            (place_of_next reader.new) (rest reader.new)) }
-        ensures raised { OnOk result (self.new.operands ≡ max self.old.operands
-            (length (typed_state validator.new.validator).operands)) }
-        ensures going { OnOk result (validator.new.validator.failed ≡ false) }
-        ensures kept { Kept validator.old.validator.stacks validator.new.validator.stacks }
-        ensures resources { validator.new.resources ≡ validator.old.resources }
-        ensures input { SameInput reader.old reader.new }
-        ensures further { OnOk result (position_in reader.old < position_in reader.new) }
-    {
-        if read_quiet(validator, reader) {
-            return self.raise(validator);
-        }
-        // The reader itself is not lent, so that it can be kept in registers.
-        let mut behind = *reader;
-        match self.read_one(validator, &mut behind) {
-            Ok(()) => {
-                reader.go_on_from(&behind);
-                Ok(())
-            }
             Err(error) => Err(error),
         }
     }
@@ -138,27 +124,140 @@ impl<A: Allocator> SideTable<A> {
         &mut self,
         validator: &mut FuncValidator<T, B>,
         reader: &mut BinaryReader<'a>,
-    ) -> Result<(), SideTableError>
+    ) -> Result<(), Error>
         requires going { validator.old.validator.failed ≡ false }
         requires empty { (typed_state validator.old.validator).operands ≡ [] }
-        requires low { self.old.operands ≡ 0 }
         ensures reaches { OnOk result (Reaches (world (T.context validator.old.resources))
             (within validator.old.validator (T.context validator.old.resources))
             (typed_state validator.old.validator) (shown self.old) (place_of_next reader.old)
             (rest reader.old) (typed_state validator.new.validator) (shown self.new)
             self.new.operands (place_of_next reader.new) (rest reader.new)) }
+        ensures took { ReadsTo result (instructions_from (world (T.context validator.old.resources))
+            (within validator.old.validator (T.context validator.old.resources))
+            (typed_state validator.old.validator) (rest reader.old))
+            (typed_state validator.new.validator) (rest reader.new) }
         ensures kept { Kept validator.old.validator.stacks validator.new.validator.stacks }
         ensures input { SameInput reader.old reader.new }
+        ensures onward { position_in reader.old ≤ position_in reader.new }
+        ensures place { IfErr result (StandsIn reader.old) }
     {
         let mut ahead = *reader;
+        let mut height = 0u32;
         'operators: while !validator.is_finished() {
-            match self.read_next(validator, &mut ahead) {
+            if read_quiet(validator, &mut ahead) {
+                height = height.max(validator.operand_stack_height());
+                continue;
+            }
+            // The reader itself is not lent, so that it can be kept in registers.
+            let mut behind = ahead;
+            match self.read_frequent(validator, &mut behind) {
+                Taken::Yes => {
+                    ahead.go_on_from(&behind);
+                    height = height.max(validator.operand_stack_height());
+                    continue;
+                }
+                Taken::No => {}
+                Taken::NoMemory => return Err(Error::OutOfMemory),
+            }
+            match self.read_one(validator, &mut behind) {
                 Ok(()) => {}
                 Err(error) => return Err(error),
             }
+            ahead.go_on_from(&behind);
+            height = height.max(validator.operand_stack_height());
         }
+        if height == u32::MAX {
+            return Err(Error::OutOfMemory);
+        }
+        self.operands = height;
         reader.go_on_from(&ahead);
         Ok(())
+    }
+
+    /// Validates a whole body, and notes its operators.
+    fn read_body<T: WasmModuleResources, B: Allocator>(
+        &mut self,
+        validator: &mut FuncValidator<T, B>,
+        body: &FunctionBody<'_>,
+    ) -> Result<(), Error>
+        requires going { validator.old.validator.failed ≡ false }
+        requires empty { (typed_state validator.old.validator).operands ≡ [] }
+        ensures read { OnOk result (HasRead (T.context validator.old.resources)
+            validator.old.validator validator.new.validator (shown self.old) self.new
+            (body_reader body.now)) }
+        ensures took { Validates result (body_in validator.old.validator
+            (T.context validator.old.resources) (body_of body.now))
+            (locals_in validator.new.validator) (typed_state validator.new.validator) }
+        ensures place { IfErr result (StandsIn (body_reader body.now)) }
+    {
+        let mut reader = body.get_binary_reader();
+        match validator.read_locals(&mut reader) {
+            Ok(()) => {}
+            Err(error) => return Err(error),
+        }
+        let start = reader.original_position();
+        match self.read_all(validator, &mut reader) {
+            Ok(()) => {}
+            Err(error) => return Err(error),
+        }
+        let stop = reader.original_position();
+        if !reader.is_empty() {
+            return Err(behind_end(stop));
+        }
+        let Some(first) = narrow_offset(start) else {
+            return Err(Error::OutOfMemory);
+        };
+        let Some(end) = narrow_offset(stop) else {
+            return Err(Error::OutOfMemory);
+        };
+        self.first = first;
+        self.end = end;
+        Ok(())
+    }
+}
+
+/// The greatest offset that an entry may have.
+const MOST: u64 = 4_294_967_295;
+
+/// Validates a body, and makes its table where the offset behind it is one that an entry may have.
+#[tactic(auto, using(crate::proofs::Whole::answers))]
+fn make<T: WasmModuleResources + Drop, A: Allocator, B: Allocator>(
+    function: FuncToValidate<T>,
+    body: &FunctionBody<'_>,
+    allocations: FuncValidatorAllocations<B>,
+    table: &mut SideTable<A>,
+) -> Result<FuncValidatorAllocations<B>, SideTableError>
+    ensures table { OnOk result (IsTableOf (features_of function.features)
+        (T.context function.resources) function.ty (place_of_next (body_reader body.now))
+        (body_of body.now) table.new) }
+    ensures decides { Makes (IsFunctionBody (features_of function.features)
+        (T.context function.resources) function.ty (body_of body.now))
+        (body_reader body.now) result }
+    ensures place { IfErr result (StandsSo (body_reader body.now)) }
+{
+    if MOST < body.get_binary_reader().range().end {
+        return match function.validate(body, allocations) {
+            Ok(_memory) => Err(SideTableError::TooLarge),
+            Err(error) => Err(of_validator(error)),
+        };
+    }
+    match table.begin() {
+        Ok(()) => {}
+        Err(_) => return Err(SideTableError::OutOfMemory),
+    }
+    let mut validator = match function.into_validator(allocations) {
+        Ok(validator) => validator,
+        Err(error) => return Err(of_validator(error)),
+    };
+    match table.read_body(&mut validator, body) {
+        Ok(()) => {}
+        Err(error) => return Err(of_validator(error)),
+    }
+    table.locals = validator.len_locals();
+    if table.finish() {
+        Ok(validator.into_allocations())
+    } else {
+        Err(SideTableError::OutOfMemory)
     }
 }
 
@@ -166,40 +265,28 @@ impl<A: Allocator> SideTable<A> {
 ///
 /// # Errors
 ///
-/// As [`FuncToValidate::validate`]; and where an offset or a count has more than 32 bits.
+/// Refused exactly where [`FuncToValidate::validate`] refuses the body, and where memory is. A valid
+/// body whose end is at an offset of more than 32 bits has none either. The table is empty then.
 pub fn validate_with_side_table<T: WasmModuleResources + Drop, A: Allocator, B: Allocator>(
     function: FuncToValidate<T>,
     body: &FunctionBody<'_>,
     allocations: FuncValidatorAllocations<B>,
     table: &mut SideTable<A>,
 ) -> Result<FuncValidatorAllocations<B>, SideTableError>
-    ensures { OnOk result (IsTableOf (features_of function.features)
+    ensures table { OnOk result (IsTableOf (features_of function.features)
         (T.context function.resources) function.ty (place_of_next (body_reader body.now))
         (body_of body.now) table.new) }
+    ensures decides { Makes (IsFunctionBody (features_of function.features)
+        (T.context function.resources) function.ty (body_of body.now))
+        (body_reader body.now) result }
+    ensures place { IfErr result (StandsSo (body_reader body.now)) }
+    ensures empty { OnErr result (IsEmptyTable table.new) }
 {
-    match table.begin() {
-        Ok(()) => {}
-        Err(error) => return Err(error),
-    }
-    let mut validator = match function.into_validator(allocations) {
-        Ok(validator) => validator,
-        Err(error) => return Err(of_validator(error)),
-    };
-    let mut reader = body.get_binary_reader();
-    match validator.read_locals(&mut reader) {
-        Ok(()) => {}
-        Err(error) => return Err(of_validator(error)),
-    }
-    match table.read_all(&mut validator, &mut reader) {
-        Ok(()) => {}
-        Err(error) => return Err(error),
-    }
-    if !reader.is_empty() {
-        return Err(SideTableError::TooLarge);
-    }
-    table.locals = validator.len_locals();
-    match table.finish() {
-        Ok(()) => Ok(validator.into_allocations()),
-        Err(error) => Err(error),
+    match make(function, body, allocations, table) {
+        Ok(memory) => Ok(memory),
+        Err(error) => {
+            table.clear();
+            Err(error)
+        }
     }
 }

@@ -11,13 +11,12 @@ ghost use Rattle.wasm_operator_validator.specs.Typed.{typed_state};
 ghost use Rattle.wasm_spec_side_tables.specs.SideTables.{to_label, past_then, catching_to, catch_label};
 ghost use Rattle.wasm_validator_side_table.specs.Shown.{shown, planned_one, planned_in};
 
-use crate::counts::{block_lengths, label_counts, narrow};
-use crate::error::SideTableError;
+use crate::counts::{label_counts, narrow};
 use crate::table::SideTable;
-use std::alloc::Allocator;
+use std::alloc::{AllocError, Allocator};
 use wasm_operators::{BlockType, BrTable, Catch, Listed, TryTable};
 use wasm_spec_side_tables::Entry;
-use wasm_validator_func::FuncValidator;
+use wasm_validator_func::{FuncValidator, block_arity};
 use wasm_validator_resources::WasmModuleResources;
 
 /// How many operands there are, if 32 bits count them.
@@ -68,7 +67,7 @@ fn label_of(clause: Catch) -> u32
 
 impl<A: Allocator> SideTable<A> {
     /// The entry of a branch to a label, once so many operands were taken that it isn't given.
-    fn label_entry<T: WasmModuleResources, B: Allocator>(
+    pub(crate) fn label_entry<T: WasmModuleResources, B: Allocator>(
         &self,
         validator: &FuncValidator<T, B>,
         at: u32,
@@ -102,7 +101,7 @@ impl<A: Allocator> SideTable<A> {
     {
         let block = self.blocks.get(label as usize)?;
         let (kept, height) = label_counts(validator, label)?;
-        let (takes, _) = block_lengths(validator.resources(), ty)?;
+        let (takes, _) = block_arity(validator.resources(), ty)?;
         let operands = count_operands(validator)? as usize;
         let dropped = operands.saturating_sub(takes).saturating_sub(height);
         entry(at, block.label, kept, dropped)
@@ -119,7 +118,7 @@ impl<A: Allocator> SideTable<A> {
             validator.now.validator at (past_then (map_block written_index (block_of ty)))
             (shown self.now) ≡ Some e) }
     {
-        let (takes, _) = block_lengths(validator.resources(), ty)?;
+        let (takes, _) = block_arity(validator.resources(), ty)?;
         let number = narrow(self.places.len())?.checked_add(1)?;
         entry(at, number, takes, 0)
     }
@@ -131,7 +130,7 @@ impl<A: Allocator> SideTable<A> {
         at: u32,
         label: u32,
         taken: u8,
-    ) -> Result<(), SideTableError>
+    ) -> Result<(), AllocError>
         ensures planned { OnOk result (planned_in (T.context validator.now.resources)
             validator.now.validator at (to_label label taken ∷ []) (shown self.old)
             ≡ Some (shown self.new)) }
@@ -139,7 +138,7 @@ impl<A: Allocator> SideTable<A> {
     {
         match self.label_entry(validator, at, label, taken) {
             Some(entry) => self.add(entry),
-            None => Err(SideTableError::TooLarge),
+            None => Err(AllocError),
         }
     }
 
@@ -149,7 +148,7 @@ impl<A: Allocator> SideTable<A> {
         validator: &FuncValidator<T, B>,
         at: u32,
         ty: BlockType,
-    ) -> Result<(), SideTableError>
+    ) -> Result<(), AllocError>
         ensures planned { OnOk result (planned_in (T.context validator.now.resources)
             validator.now.validator at (past_then (map_block written_index (block_of ty)) ∷ [])
             (shown self.old) ≡ Some (shown self.new)) }
@@ -157,7 +156,7 @@ impl<A: Allocator> SideTable<A> {
     {
         match self.then_entry(validator, at, ty) {
             Some(entry) => self.add(entry),
-            None => Err(SideTableError::TooLarge),
+            None => Err(AllocError),
         }
     }
 
@@ -168,7 +167,7 @@ impl<A: Allocator> SideTable<A> {
         validator: &FuncValidator<T, B>,
         at: u32,
         labels: Listed<'a, u32>,
-    ) -> Result<(), SideTableError>
+    ) -> Result<(), AllocError>
         ensures planned { OnOk result (planned_in (T.context validator.now.resources)
             validator.now.validator at (map (λ n. to_label n 1) (listed u32_at labels.entry))
             (shown self.old) ≡ Some (shown self.new)) }
@@ -191,7 +190,7 @@ impl<A: Allocator> SideTable<A> {
         validator: &FuncValidator<T, B>,
         at: u32,
         table: BrTable<'a>,
-    ) -> Result<(), SideTableError>
+    ) -> Result<(), AllocError>
         ensures planned { OnOk result (planned_in (T.context validator.now.resources)
             validator.now.validator at
             (map (λ n. to_label n 1) (listed u32_at table.entry.targets)
@@ -215,7 +214,7 @@ impl<A: Allocator> SideTable<A> {
         at: u32,
         ty: BlockType,
         clause: Catch,
-    ) -> Result<(), SideTableError>
+    ) -> Result<(), AllocError>
         ensures planned { OnOk result (planned_in (T.context validator.now.resources)
             validator.now.validator at
             (catching_to (map_block written_index (block_of ty)) (catch_label clause) ∷ [])
@@ -224,7 +223,7 @@ impl<A: Allocator> SideTable<A> {
     {
         match self.catch_entry(validator, at, ty, label_of(clause)) {
             Some(entry) => self.add(entry),
-            None => Err(SideTableError::TooLarge),
+            None => Err(AllocError),
         }
     }
 
@@ -235,7 +234,7 @@ impl<A: Allocator> SideTable<A> {
         validator: &FuncValidator<T, B>,
         at: u32,
         table: TryTable<'a>,
-    ) -> Result<(), SideTableError>
+    ) -> Result<(), AllocError>
         ensures planned { OnOk result (planned_in (T.context validator.now.resources)
             validator.now.validator at
             (map (λ c. catching_to (map_block written_index (block_of table.entry.ty))

@@ -1,10 +1,11 @@
 //! Operators that are typed as they stand in bytes, where nothing of them is noted but the height of
 //! operands.
 
-ghost use Rattle.std.specs.Prelude.{◌≡◌, ◌<◌, false, true};
-ghost use Rattle.wasm_readers.specs.WasmReadersBytes.Reader.{SameInput, position_in};
+ghost use Rattle.std.specs.Prelude.{◌≡◌, ◌<◌, false, true, Some};
+ghost use Rattle.wasm_readers.specs.WasmReadersBytes.Reader.{SameInput, position_in, rest};
 ghost use Rattle.wasm_operator_stacks.specs.Seen.{Kept};
 ghost use Rattle.wasm_operator_validator.specs.Typed.{typed_state};
+ghost use Rattle.wasm_operator_validator.specs.Reads.{stepped};
 ghost use Rattle.wasm_validator_side_table.specs.Fast.{IsQuiet, AdvancesQuietly};
 
 use std::alloc::Allocator;
@@ -44,6 +45,9 @@ pub(crate) fn read_quiet<'a, T: WasmModuleResources, B: Allocator>(
     requires { validator.old.validator.failed ≡ false }
     ensures advances { result ≡ true → AdvancesQuietly (T.context validator.old.resources)
         validator.old.validator validator.new.validator reader.old reader.new }
+    ensures took { result ≡ true → stepped (T.context validator.old.resources)
+        validator.old.validator.stacks reader.old
+        ≡ Some (typed_state validator.new.validator, rest reader.new) }
     ensures further { result ≡ true → position_in reader.old < position_in reader.new }
     ensures unread { result ≡ false → reader.new ≡ reader.old }
     ensures left { result ≡ false

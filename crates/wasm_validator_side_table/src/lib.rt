@@ -9,6 +9,7 @@ mod branches;
 mod counts;
 mod error;
 mod fast;
+mod frequent;
 mod notes;
 mod table;
 

@@ -1,6 +1,6 @@
 //! Operators that are noted.
 
-ghost use Rattle.std.specs.Prelude.{◌≡◌, false, max, length, OnOk, Some};
+ghost use Rattle.std.specs.Prelude.{◌≡◌, true, false, max, length, OnOk, Some};
 ghost use Rattle.wasm_operators.specs.Maps.{map_control, map_legacy, map_reference, map_cast};
 ghost use Rattle.wasm_operators.specs.SeenControl.{control_of};
 ghost use Rattle.wasm_operators.specs.SeenLegacy.{legacy_of};
@@ -10,16 +10,17 @@ ghost use Rattle.wasm_validator_resources.specs.Answers.{written_index};
 ghost use Rattle.wasm_operator_stacks.specs.Seen.{Kept};
 ghost use Rattle.wasm_operator_validator.specs.Stepped.{IsWrittenInstruction};
 ghost use Rattle.wasm_operator_validator.specs.Typed.{typed_state};
+ghost use Rattle.wasm_operator_validator.specs.Checked.{TookAt};
+ghost use Rattle.wasm_operator_validator.specs.Ended.{failure_at};
 ghost use Rattle.wasm_spec_side_tables.specs.SideTables.{branches, control_branches, legacy_branches, reference_branches, cast_branches};
 ghost use Rattle.wasm_spec_side_tables.specs.SideTables.{nesting, control_nesting, legacy_nesting};
 ghost use Rattle.wasm_validator_side_table.specs.Shown.{shown, instruction_of, placed, nested_in, planned_in, noted_in, steps_to};
 
 use crate::branches::count_operands;
-use crate::counts::narrow_offset;
-use crate::error::{SideTableError, of_validator};
 use crate::table::SideTable;
-use std::alloc::Allocator;
+use std::alloc::{AllocError, Allocator};
 use wasm_operators::{CastOperator, ControlOperator, LegacyOperator, Operator, ReferenceOperator};
+use wasm_readers_errors::Error;
 use wasm_validator_func::FuncValidator;
 use wasm_validator_resources::WasmModuleResources;
 
@@ -30,7 +31,7 @@ impl<A: Allocator> SideTable<A> {
         validator: &FuncValidator<T, B>,
         at: u32,
         op: &ControlOperator<'a>,
-    ) -> Result<(), SideTableError>
+    ) -> Result<(), AllocError>
         ensures planned { OnOk result (planned_in (T.context validator.now.resources)
             validator.now.validator at (control_branches (map_control written_index (control_of op.now))) (shown self.old)
             ≡ Some (shown self.new)) }
@@ -66,7 +67,7 @@ impl<A: Allocator> SideTable<A> {
         validator: &FuncValidator<T, B>,
         at: u32,
         op: &LegacyOperator,
-    ) -> Result<(), SideTableError>
+    ) -> Result<(), AllocError>
         ensures planned { OnOk result (planned_in (T.context validator.now.resources)
             validator.now.validator at (legacy_branches (map_legacy written_index (legacy_of op.now))) (shown self.old)
             ≡ Some (shown self.new)) }
@@ -88,7 +89,7 @@ impl<A: Allocator> SideTable<A> {
         validator: &FuncValidator<T, B>,
         at: u32,
         op: &ReferenceOperator,
-    ) -> Result<(), SideTableError>
+    ) -> Result<(), AllocError>
         ensures planned { OnOk result (planned_in (T.context validator.now.resources)
             validator.now.validator at (reference_branches (map_reference written_index (reference_of op.now))) (shown self.old)
             ≡ Some (shown self.new)) }
@@ -115,7 +116,7 @@ impl<A: Allocator> SideTable<A> {
         validator: &FuncValidator<T, B>,
         at: u32,
         op: &CastOperator,
-    ) -> Result<(), SideTableError>
+    ) -> Result<(), AllocError>
         ensures planned { OnOk result (planned_in (T.context validator.now.resources)
             validator.now.validator at (cast_branches (map_cast written_index (cast_of op.now))) (shown self.old)
             ≡ Some (shown self.new)) }
@@ -145,7 +146,7 @@ impl<A: Allocator> SideTable<A> {
         validator: &FuncValidator<T, B>,
         at: u32,
         op: &Operator<'a>,
-    ) -> Result<(), SideTableError>
+    ) -> Result<(), AllocError>
         ensures planned { OnOk result (planned_in (T.context validator.now.resources)
             validator.now.validator at (branches (instruction_of op.now)) (shown self.old)
             ≡ Some (shown self.new)) }
@@ -174,11 +175,7 @@ impl<A: Allocator> SideTable<A> {
     }
 
     /// Opens, turns or closes a block.
-    fn nest_control<'a>(
-        &mut self,
-        behind: u32,
-        op: &ControlOperator<'a>,
-    ) -> Result<(), SideTableError>
+    fn nest_control<'a>(&mut self, behind: u32, op: &ControlOperator<'a>) -> Result<(), AllocError>
         ensures nested { OnOk result (nested_in
             (control_nesting (map_control written_index (control_of op.now))) behind
             (shown self.old) ≡ Some (shown self.new)) }
@@ -203,7 +200,7 @@ impl<A: Allocator> SideTable<A> {
     }
 
     /// Opens, turns or closes a block of legacy exceptions.
-    fn nest_legacy(&mut self, behind: u32, op: &LegacyOperator) -> Result<(), SideTableError>
+    fn nest_legacy(&mut self, behind: u32, op: &LegacyOperator) -> Result<(), AllocError>
         ensures nested { OnOk result (nested_in
             (legacy_nesting (map_legacy written_index (legacy_of op.now))) behind
             (shown self.old) ≡ Some (shown self.new)) }
@@ -220,7 +217,7 @@ impl<A: Allocator> SideTable<A> {
     }
 
     /// Opens, turns or closes a block, if the operator does.
-    fn nest<'a>(&mut self, behind: u32, op: &Operator<'a>) -> Result<(), SideTableError>
+    fn nest<'a>(&mut self, behind: u32, op: &Operator<'a>) -> Result<(), AllocError>
         ensures nested { OnOk result (nested_in (nesting (instruction_of op.now)) behind
             (shown self.old) ≡ Some (shown self.new)) }
         ensures operands { OnOk result (self.new.operands ≡ self.old.operands) }
@@ -255,7 +252,7 @@ impl<A: Allocator> SideTable<A> {
         at: u32,
         behind: u32,
         op: &Operator<'a>,
-    ) -> Result<(), SideTableError>
+    ) -> Result<(), AllocError>
         ensures noted { OnOk result (noted_in (T.context validator.now.resources)
             validator.now.validator (placed at behind op.now) (shown self.old)
             ≡ Some (shown self.new)) }
@@ -276,7 +273,7 @@ impl<A: Allocator> SideTable<A> {
     pub(crate) fn raise<T: WasmModuleResources, B: Allocator>(
         &mut self,
         validator: &FuncValidator<T, B>,
-    ) -> Result<(), SideTableError>
+    ) -> Result<(), AllocError>
         ensures same { OnOk result (shown self.new ≡ shown self.old) }
         ensures raised { OnOk result (self.new.operands ≡ max self.old.operands
             (length (typed_state validator.now.validator).operands)) }
@@ -286,7 +283,7 @@ impl<A: Allocator> SideTable<A> {
                 self.operands = self.operands.max(count);
                 Ok(())
             }
-            None => Err(SideTableError::TooLarge),
+            None => Err(AllocError),
         }
     }
 
@@ -295,44 +292,43 @@ impl<A: Allocator> SideTable<A> {
     ///
     /// # Errors
     ///
-    /// As [`FuncValidator::op`]; and where an offset or a count has more than 32 bits. The table is
-    /// then of no use.
+    /// Refuses as [`FuncValidator::op`]; answers want of memory, also where there are as many
+    /// operands as 32 bits don't count. The table is then of no use, until it begins again.
     #[tactic(auto, using(crate::proofs::Reaching::stepping))]
     pub fn op<'a, T: WasmModuleResources, B: Allocator>(
         &mut self,
         validator: &mut FuncValidator<T, B>,
-        at: u64,
-        behind: u64,
+        at: u32,
+        behind: u32,
         op: &Operator<'a>,
-    ) -> Result<(), SideTableError>
+    ) -> Result<(), Error>
         requires { IsWrittenInstruction (operator_of op.now) }
         ensures noted { OnOk result (noted_in (T.context validator.old.resources)
             validator.old.validator (placed at behind op.now) (shown self.old)
             ≡ Some (shown self.new)) }
         ensures raised { OnOk result (self.new.operands ≡ max self.old.operands
             (length (typed_state validator.new.validator).operands)) }
-        ensures took { validator.old.validator.failed ≡ false → OnOk result (steps_to
-            (T.context validator.old.resources) validator.old.validator (instruction_of op.now)
-            ≡ Some (typed_state validator.new.validator)) }
+        ensures took { validator.old.validator.failed ≡ false → TookAt at result (steps_to
+            (T.context validator.old.resources) validator.old.validator (instruction_of op.now))
+            (typed_state validator.new.validator) }
+        ensures ended { validator.old.validator.failed ≡ true → result ≡ failure_at at }
         ensures going { OnOk result (validator.new.validator.failed ≡ false) }
         ensures kept { Kept validator.old.validator.stacks validator.new.validator.stacks }
-        ensures resources { validator.new.resources ≡ validator.old.resources }
+        ensures same { (validator.new.resources ≡ validator.old.resources)
+            × (validator.new.index ≡ validator.old.index) }
     {
-        let (Some(from), Some(to)) = (narrow_offset(at), narrow_offset(behind)) else {
-            return Err(SideTableError::TooLarge);
-        };
-        let noted = self.note(validator, from, to, op);
-        match validator.op(at, op) {
-            Ok(()) => {}
-            Err(error) => return Err(of_validator(error)),
-        }
-        match noted {
+        let noted = self.note(validator, at, behind, op);
+        match validator.op(at as u64, op) {
             Ok(()) => {}
             Err(error) => return Err(error),
         }
+        match noted {
+            Ok(()) => {}
+            Err(_) => return Err(Error::OutOfMemory),
+        }
         match self.raise(validator) {
             Ok(()) => Ok(()),
-            Err(error) => Err(error),
+            Err(_) => Err(Error::OutOfMemory),
         }
     }
 }

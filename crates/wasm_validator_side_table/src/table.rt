@@ -1,12 +1,13 @@
 //! Tables, while they are made and once they are.
 
-ghost use Rattle.std.specs.Prelude.{◌≡◌, ◌++◌, ◌∷◌, [], OnOk};
+ghost use Rattle.std.specs.Prelude.{◌≡◌, ◌++◌, ◌∷◌, [], OnOk, IfErr};
 ghost use Rattle.wasm_validator_side_table.specs.Shown.{shown};
+ghost use Rattle.wasm_validator_side_table.specs.Tables.{IsEmptyTable};
 ghost use Rattle.wasm_spec_side_tables.specs.Building.{begun};
 
-use crate::error::SideTableError;
-use std::alloc::{Allocator, Global};
+use std::alloc::{AllocError, Allocator, Global};
 use wasm_operator_stacks::Stack;
+use wasm_readers_errors::Error;
 use wasm_spec_side_tables::{Entry, OpenBlock, Place};
 
 /// A side table, and the memory in which the next one is made.
@@ -16,6 +17,8 @@ pub struct SideTable<A: Allocator = Global> {
     pub(crate) blocks: Stack<OpenBlock, A>,
     pub(crate) operands: u32,
     pub(crate) locals: u32,
+    pub(crate) first: u32,
+    pub(crate) end: u32,
 }
 
 // By hand: so each way out takes one call for it, and not a step for each field.
@@ -27,6 +30,8 @@ impl<A: Allocator> Drop for SideTable<A> {
             blocks: _,
             operands: _,
             locals: _,
+            first: _,
+            end: _,
         } = self;
     }
 }
@@ -40,6 +45,8 @@ impl<A: Allocator + Copy> SideTable<A> {
             blocks: Stack::new(alloc),
             operands: 0,
             locals: 0,
+            first: 0,
+            end: 0,
         }
     }
 }
@@ -66,25 +73,59 @@ impl<A: Allocator> SideTable<A> {
         self.locals
     }
 
+    /// The offset of the body's first instruction, behind its declarations of locals.
+    pub fn first(&self) -> u32
+        ensures { result ≡ self.now.first }
+    {
+        self.first
+    }
+
+    /// The offset behind the body's last instruction.
+    pub fn end(&self) -> u32
+        ensures { result ≡ self.now.end }
+    {
+        self.end
+    }
+
     /// Makes room for the table of another body.
     ///
     /// # Errors
     ///
     /// Answers want of memory.
-    pub fn begin(&mut self) -> Result<(), SideTableError>
+    pub fn begin(&mut self) -> Result<(), Error>
         ensures begun { OnOk result (shown self.new ≡ begun) }
         ensures low { OnOk result (self.new.operands ≡ 0) }
+        ensures memory { IfErr result (λ e. e ≡ Error.OutOfMemory) }
+    {
+        self.clear();
+        match self.open_block(false, 0) {
+            Ok(()) => Ok(()),
+            Err(_) => Err(Error::OutOfMemory),
+        }
+    }
+
+    /// Leaves nothing of the table that was made.
+    pub fn clear(&mut self)
+        ensures shown { shown self.new ≡ record {
+          entries = [];
+          nest = record {
+            places = [];
+            open_blocks = [];
+          };
+        } }
+        ensures empty { IsEmptyTable self.new }
     {
         self.entries.clear();
         self.places.clear();
         self.blocks.truncate(0);
         self.operands = 0;
         self.locals = 0;
-        self.open_block(false, 0)
+        self.first = 0;
+        self.end = 0;
     }
 
     /// One entry more.
-    pub(crate) fn add(&mut self, entry: Entry) -> Result<(), SideTableError>
+    pub(crate) fn add(&mut self, entry: Entry) -> Result<(), AllocError>
         ensures added { OnOk result (shown self.new ≡ record {
           entries = (shown self.old).entries
               ++ entry ∷ [];
@@ -94,7 +135,7 @@ impl<A: Allocator> SideTable<A> {
     {
         match self.entries.push(entry) {
             Ok(()) => Ok(()),
-            Err(_) => Err(SideTableError::OutOfMemory),
+            Err(_) => Err(AllocError),
         }
     }
 }

@@ -1,4 +1,4 @@
-use Rattle.std.proofs.Common.{◌≡◌, ◌-◌, length}
+use Rattle.std.proofs.Common.{◌≡◌, ◌-◌, [], length}
 use Rattle.wasm_validator_side_table.proofs.Resolving.{Resolves}
 use Rattle.wasm_validator_side_table.proofs.table.SideTable.finish.Given as goal
 
@@ -8,6 +8,9 @@ invariant-entries g l = record {
   places : l.self.places.items ≡ l.initial.self.places.items;
   operands : l.self.operands ≡ l.initial.self.operands;
   locals : l.self.locals ≡ l.initial.self.locals;
+  first : l.self.first ≡ l.initial.self.first;
+  end : l.self.end ≡ l.initial.self.end;
+  closed : l.initial.self.blocks ≡ [];
 }
 
 abbrev pub decreases-entries : goal.decreases-entries

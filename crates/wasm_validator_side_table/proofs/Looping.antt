@@ -1,0 +1,49 @@
+-- One step more on the way through a body.
+use Rattle.std.proofs.Common.{◌≡◌, ◌≤◌, ◌<◌, subst, ℕ, max, false, List, length, Option, Some, Err}
+use Rattle.wasm_spec_rules.specs.Contexts.{Context}
+use Rattle.wasm_readers.specs.WasmReadersBytes.Reader.{SameInput, position_in, place_of_next, rest}
+use Rattle.wasm_readers.specs.WasmReadersBytes.declared.binary_reader.BinaryReader.{BinaryReader}
+use Rattle.wasm_readers_errors.specs.declared.error.Error.{Error}
+use Rattle.wasm_readers_types.specs.WasmReadersValues.declared.indices.UnpackedIndex.{UnpackedIndex}
+use Rattle.wasm_operators.proofs.Skipping.{shorter}
+use Rattle.wasm_operator_steps.specs.Bodies.{Surroundings}
+use Rattle.wasm_operator_steps.specs.Machine.{State}
+use Rattle.wasm_operator_steps.specs.Steps.{is_finished}
+use Rattle.wasm_validator_resources.specs.Answers.{world}
+use Rattle.wasm_operator_stacks.specs.Seen.{Kept}
+use Rattle.wasm_operator_validator.specs.WasmOperatorFast.Fused.{step_at}
+use Rattle.wasm_operator_validator.specs.Typed.{typed_state}
+use Rattle.wasm_operator_validator.specs.Checked.{within, ReadsTo}
+use Rattle.wasm_operator_validator.specs.Reads.{ReadsStep, stepped}
+use Rattle.wasm_operator_validator.specs.declared.validator.OperatorValidator.{OperatorValidator}
+use Rattle.wasm_operator_validator.proofs.Kept.{kept_around}
+use Rattle.wasm_validator_func.specs.Bodies.{typed_from}
+use Rattle.wasm_validator_func.proofs.Bytes.{one_more, stopped_here}
+use Rattle.wasm_spec_side_tables.specs.Building.{Built}
+use Rattle.wasm_validator_side_table.specs.Tables.{Advances, Reaches}
+use Rattle.wasm_validator_side_table.proofs.Reaching.{reaches_more}
+
+module _ {A : Type 0} (C : Context UnpackedIndex) (v w : OperatorValidator A) (old : BinaryReader) (kept : Kept v.stacks w.stacks) where
+  -- the table
+  pub table_more :
+      (u : OperatorValidator A) (first new : BinaryReader) (T0 T U : Built) (high : ℕ)
+      → Reaches (world C) (within v C) (typed_state v) T0 (place_of_next first) (rest first) (typed_state w) T high (place_of_next old) (rest old)
+      → Advances (world C) (within w C) (typed_state w) T (place_of_next old) (rest old) (typed_state u) U (place_of_next new) (rest new)
+      → Reaches (world C) (within v C) (typed_state v) T0 (place_of_next first) (rest first) (typed_state u) U (max high (length (typed_state u).operands)) (place_of_next new) (rest new)
+  table_more u first new T0 T U high reaches advances =
+      let step : Advances (world C) (within v C) (typed_state w) T (place_of_next old) (rest old) (typed_state u) U (place_of_next new) (rest new) =
+      subst (λ (B : Surroundings UnpackedIndex). Advances (world C) B (typed_state w) T (place_of_next old) (rest old) (typed_state u) U (place_of_next new) (rest new)) (kept_around v.stacks w.stacks C kept) advances in
+      reaches_more (world C) (within v C) (typed_state v) (typed_state w) (typed_state u) T0 T U (place_of_next first) high (place_of_next old) (place_of_next new) (rest first) (rest old) (rest new) reaches step
+
+  module _ (most : ℕ) (all : Option (State UnpackedIndex × List ℕ)) (open_ : is_finished (typed_state w) ≡ false) (so_far : typed_from (world C) (within v C) most (typed_state w) (rest old) ≡ all) where
+    -- the instructions
+    pub far_more : (u : OperatorValidator A) (new : BinaryReader) → length (rest old) ≤ most → SameInput old new → position_in old < position_in new → stepped C w.stacks old ≡ Some (typed_state u, rest new)
+        → (m : ℕ) × (length (rest new) ≤ m) × (typed_from (world C) (within v C) m (typed_state u) (rest new) ≡ all)
+    far_more u new enough same further step =
+        one_more C (within v C) most (typed_state w) (typed_state u) (rest old) (rest new) all enough (shorter old new same further) open_
+        (subst (λ B. step_at (world C) B (typed_state w) (rest old) ≡ Some (typed_state u, rest new)) (kept_around v.stacks w.stacks C kept) step) so_far
+
+    pub far_stopped : (e : Error) (t x : State UnpackedIndex) (more behind : List ℕ) → ReadsStep (Err e) (stepped C w.stacks old) t more → ReadsTo (Err e) all x behind
+    far_stopped e t x more behind step =
+        stopped_here C (within v C) e most (typed_state w) (rest old) all t x more behind open_
+        (subst (λ B. ReadsStep (Err e) (step_at (world C) B (typed_state w) (rest old)) t more) (kept_around v.stacks w.stacks C kept) step) so_far
