@@ -12,9 +12,8 @@ import sys
 ROOT = os.path.dirname(os.path.dirname(os.path.abspath(__file__)))
 MOST_WALKS, MOST_CRATES, MOST_LINES, MOST_FUNCTIONS = 3_400, 75, 1_500, 110
 ALL, MOST_WALKS_OF_ALL = "test_all", 9_200
-# The side table of a function stands over the validator and over side tables, and the C library over it and over handles; that has an export for
-# each call.
-MORE_WALKS, MORE_LINES = {"wasm_validator_tables": 4_500, "ruthvelka_c": 7_800}, {"ruthvelka_c": 1_600}
+# The side table of a function stands over the validator and over side tables, and the C library over it and over handles.
+MORE_WALKS = {"wasm_validator_tables": 4_500, "ruthvelka_c": 7_800}
 # What is passed on for users alone: the condition of `FuncValidator::op`, which their contracts name.
 FOR_USERS = {("wasm_validator_func", "specs/Stepped")}
 LAYERS = ("wasm_spec", "wasm_readers", "wasm_operator", "wasm_items", "wasm_parser", "wasm_validat", "wasm_check", "wasm_laws_", "rows_", "test_all", "examples", "ruthvelka_c")
@@ -92,7 +91,7 @@ def main():
         lines, functions = sum(it.count("\n") for it in code), sum(len(re.findall(r"\bfn [a-z_0-9]+", it)) for it in code)
         if not name.startswith(LAYERS):
             wrong.append(f"{name}: its name begins with no layer's")
-        if lines > MORE_LINES.get(name, MOST_LINES) or functions > MOST_FUNCTIONS:
+        if lines > MOST_LINES or functions > MOST_FUNCTIONS:
             wrong.append(f"{name}: {lines} lines and {functions} functions, more than {MOST_LINES} or {MOST_FUNCTIONS}")
         for it in words_of[name]:
             is_named = re.search(rf"\b(?:{it}::|Rattle\.{it}\.)", whole[name])

@@ -3,7 +3,7 @@
 ghost use Rattle.std.specs.Prelude.{◌≡◌, ◌≢◌};
 ghost use Rattle.wasm_validator_handles.specs.WasmValidator.Verdict.{AreModule, AreNoModule};
 ghost use Rattle.wasm_validator_tables.specs.Told.{IsTold, Stays};
-ghost use Rattle.ruthvelka_c.specs.Arrays.{HasText};
+ghost use Rattle.wasm_validator_handles.specs.Arrays.{HasText};
 ghost use Rattle.ruthvelka_c.specs.Reports.{Told, flags};
 
 use crate::answers::answer_alone;

@@ -7,3 +7,4 @@ pub mod Pairs
 pub mod Entities
 pub mod Signatures
 pub mod Names
+pub mod Arrays

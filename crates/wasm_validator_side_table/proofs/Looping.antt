@@ -1,5 +1,6 @@
 -- One step more on the way through a body.
-use Rattle.std.proofs.Common.{◌≡◌, ◌≤◌, ◌<◌, subst, ℕ, max, false, List, length, Option, Some, Err}
+use Rattle.std.proofs.Common.{◌≡◌, ◌≤◌, ◌<◌, ◌∙◌, sym, ap, subst, ℕ, max, false, List, length, Option, Some, Err}
+use Rattle.wasm_spec.specs.MatchingTests.{World}
 use Rattle.wasm_spec_rules.specs.Contexts.{Context}
 use Rattle.wasm_readers.specs.WasmReadersBytes.Reader.{SameInput, position_in, place_of_next, rest}
 use Rattle.wasm_readers.specs.WasmReadersBytes.declared.binary_reader.BinaryReader.{BinaryReader}
@@ -47,3 +48,19 @@ module _ {A : Type 0} (C : Context UnpackedIndex) (v w : OperatorValidator A) (o
     far_stopped e t x more behind step =
         stopped_here C (within v C) e most (typed_state w) (rest old) all t x more behind open_
         (subst (λ B. ReadsStep (Err e) (step_at (world C) B (typed_state w) (rest old)) t more) (kept_around v.stacks w.stacks C kept) step) so_far
+
+-- from where nothing changed
+pub stepped_same : {A : Type 0} (C D : Context UnpackedIndex) (v w : OperatorValidator A) (r s : BinaryReader) → D ≡ C → Kept v.stacks w.stacks → typed_state w ≡ typed_state v → s ≡ r → stepped D w.stacks s ≡ stepped C v.stacks r
+stepped_same C D v w r s d k e f =
+    ap (λ (X : Context UnpackedIndex). step_at (world X) (within w X) (typed_state w) (rest s)) d
+    ∙ ap (λ (x : BinaryReader). step_at (world C) (within w C) (typed_state w) (rest x)) f
+    ∙ ap (λ (t : State UnpackedIndex). step_at (world C) (within w C) t (rest r)) e
+    ∙ ap (λ (B : Surroundings UnpackedIndex). step_at (world C) B (typed_state v) (rest r)) (kept_around v.stacks w.stacks C k)
+
+-- what was reached, at a reader that stands there, by a height that counts it
+pub reaches_at : (W : World UnpackedIndex) (B : Surroundings UnpackedIndex) (s : State UnpackedIndex) (T : Built) (at : ℕ) (bytes : List ℕ) (t : State UnpackedIndex) (U : Built) (high height end behind : ℕ) (more next : List ℕ)
+    → high ≡ height → behind ≡ end → next ≡ more → Reaches W B s T at bytes t U high end more → Reaches W B s T at bytes t U height behind next
+reaches_at W B s T at bytes t U high height end behind more next h e f r =
+    let a = subst (λ (n : ℕ). Reaches W B s T at bytes t U n end more) h r in
+    let b = subst (λ (n : ℕ). Reaches W B s T at bytes t U height n more) (sym e) a in
+    subst (λ (xs : List ℕ). Reaches W B s T at bytes t U height behind xs) (sym f) b
