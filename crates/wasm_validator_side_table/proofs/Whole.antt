@@ -84,6 +84,9 @@ pub makes_none : (X : Type 0) (P : Type 0) (r : BinaryReader) (e : Error) → Re
 makes_none X P r (Refused f) h = h
 makes_none X P r OutOfMemory h = tt
 
+pub makes_told : (X : Type 0) (P : Type 0) (r : BinaryReader) (e : Error) (x : SideTableError) → x ≡ told e → Refuses P e → Makes {X = X} P r (Err x)
+makes_told X P r e x same h = subst (λ (y : SideTableError). Makes {X = X} P r (Err y)) (sym same) (makes_none X P r e h)
+
 pub stands_so : (r : BinaryReader) (e : Error) → StandsInOrFirst r e → StandsSo r (told e)
 stands_so r (Refused f) h = h
 stands_so r OutOfMemory h = tt

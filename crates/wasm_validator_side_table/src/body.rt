@@ -166,7 +166,7 @@ impl<A: Allocator> SideTable<A> {
             ahead.go_on_from(&behind);
             height = height.max(validator.operand_stack_height());
         }
-        if height == u32::MAX {
+        if height >= u32::MAX {
             return Err(Error::OutOfMemory);
         }
         self.operands = height;

@@ -1,4 +1,4 @@
-use Rattle.std.proofs.Common.{◌≡◌, ◌≤◌, ◌+◌, ◌∙◌, sym, ap, subst, length, Some, Err, rules, tests}
+use Rattle.std.proofs.Common.{◌≡◌, ◌≤◌, ◌+◌, ◌∙◌, sym, ap, subst, ℕ, length, Some, Err, rules, tests}
 use Rattle.wasm_spec_rules.specs.Contexts.{Context}
 use Rattle.wasm_spec_rules.specs.FeatureFlags.{features_of}
 use Rattle.wasm_readers.specs.WasmReadersBytes.Reader.{input, original, place_of_next, rest}
@@ -12,7 +12,7 @@ use Rattle.wasm_validator_side_table.specs.Answers.{Makes}
 use Rattle.wasm_validator_side_table.specs.Shown.{shown}
 use Rattle.wasm_validator_side_table.specs.Tables.{HasRead, IsTableOf}
 use Rattle.wasm_validator_side_table.specs.declared.error.SideTableError.{SideTableError}
-use Rattle.wasm_validator_side_table.proofs.Whole.{table_is, makes, makes_none, ends_low}
+use Rattle.wasm_validator_side_table.proofs.Whole.{table_is, makes, makes_told, ends_low}
 use Rattle.wasm_validator_side_table.proofs.body.make.Goals as goal
 
 pub returns-in-Err-into_validator-clause-decides : goal.returns-in-Err-into_validator-clause-decides
@@ -22,8 +22,8 @@ returns-in-Err-into_validator-clause-decides g c =
     let bytes = body_of c.args.body.now in
     let P = IsFunctionBody F C c.args.function.ty bytes in
     let e = c.in-Err-into_validator.error in
-    subst (λ (x : SideTableError). Makes P (body_reader c.args.body.now) (Err x)) (sym c.of_validator.ensures)
-    (makes_none _ P (body_reader c.args.body.now) e (begins_not F C c.args.function.ty bytes _ e c.in-Err-into_validator.ensures.many))
+    makes_told ℕ P (body_reader c.args.body.now) e c.of_validator-in-Err-into_validator.result c.of_validator-in-Err-into_validator.ensures
+    (begins_not F C c.args.function.ty bytes ℕ e c.in-Err-into_validator.ensures.many)
 
 pub returns-in-Err-read_body-clause-decides : goal.returns-in-Err-read_body-clause-decides
 returns-in-Err-read_body-clause-decides g c =
@@ -38,9 +38,8 @@ returns-in-Err-read_body-clause-decides g c =
     let there : D ≡ C = ap (λ r. g.T.WasmModuleResources.context r) c.in-Ok-into_validator.ensures.resources in
     let took : Validates (Err e) (body_in v C bytes) (locals_in u) (typed_state u) =
     subst (λ (X : Context UnpackedIndex). Validates (Err e) (body_in v X bytes) (locals_in u) (typed_state u)) there c.in-Err-read_body.ensures.took in
-    subst (λ (x : SideTableError). Makes P (body_reader c.args.body.now) (Err x)) (sym c.of_validator.ensures)
-    (makes_none _ P (body_reader c.args.body.now) e
-    (body_refused v F C c.args.function.ty bytes e (locals_in u) (typed_state u) (ap features_of c.in-Ok-into_validator.ensures.features) c.in-Ok-into_validator.ensures.begins took))
+    makes_told ℕ P (body_reader c.args.body.now) e c.of_validator-in-Err-read_body.result c.of_validator-in-Err-read_body.ensures
+    (body_refused v F C c.args.function.ty bytes e (locals_in u) (typed_state u) (ap features_of c.in-Ok-into_validator.ensures.features) c.in-Ok-into_validator.ensures.begins took)
 
 pub returns-then-finish-clause-table : goal.returns-then-finish-clause-table
 returns-then-finish-clause-table g c =
@@ -59,7 +58,7 @@ returns-then-finish-clause-table g c =
     let places = c.finish.ensures.places in
     let locals : last.locals ≡ length (locals_in u) = counts.1 ∙ c.len_locals-table.ensures in
     let all : IsTableOf (features_of v.stacks.features) C n (place_of_next r) (rest r) last =
-    table_is C n v u T t last r c.in-Ok-into_validator.ensures.begins c.in-Ok.ensures.begun read (search (rules, tests)) (search (rules, tests)) counts.0 locals places.0 places.1 in
+    table_is C n v u T t last r c.in-Ok-into_validator.ensures.begins c.in-Ok-begin.ensures.begun read (search (rules, tests)) (search (rules, tests)) counts.0 locals places.0 places.1 in
     subst (λ x. IsTableOf (features_of x) C n (place_of_next r) (rest r) last) c.in-Ok-into_validator.ensures.features all
 
 pub returns-then-finish-clause-decides : goal.returns-then-finish-clause-decides
@@ -79,4 +78,4 @@ returns-then-finish-clause-decides g c =
     let same : c.get_binary_reader.result ≡ r = c.get_binary_reader.ensures in
     let end : c.range.result.end ≡ original r + length (input r) = c.range.ensures.end ∙ ap (λ x. original x + length (input x)) same in
     let low : c.range.result.end ≤ 4294967295 = search (rules, tests) in
-    makes P r _ (ends_low r c.range.result.end end low) is
+    makes P r c.into_allocations.result (ends_low r c.range.result.end end low) is

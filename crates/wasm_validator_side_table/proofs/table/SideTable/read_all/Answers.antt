@@ -109,11 +109,11 @@ operators-preserved-in-Yes g c =
     advances_on C w u T U (place_of_next old) (rest old) next new (place_stays middle next new first second position) more from_old in
     let took : stepped D x.stacks middle ≡ Some (typed_state u, rest next) = search (rules, tests) in
     let step : stepped C w.stacks old ≡ Some (typed_state u, rest new) = sym (stepped_same C D w x old middle there kept left unread) ∙ took ∙ ap (λ xs. Some (typed_state u, xs)) (sym more) in
-    let counted : c.max-height.result ≡ max c.operators.height c.operand_stack_height.result = search rules in
+    let counted : c.max-height-in-Yes.result ≡ max c.operators.height c.operand_stack_height-in-Yes.result = search rules in
     record {
       reaches = (
           max high.0 (length (typed_state u).operands),
-          (λ l. count_more c.operators.height c.operand_stack_height.result high.0 (length (typed_state u).operands) high.1 c.operand_stack_height.ensures.few c.operand_stack_height.ensures.many (subst (λ (n : ℕ). n < 4294967295) counted l) ∙ sym counted),
+          (λ l. count_more c.operators.height c.operand_stack_height-in-Yes.result high.0 (length (typed_state u).operands) high.1 c.operand_stack_height-in-Yes.ensures.few c.operand_stack_height-in-Yes.ensures.many (subst (λ (n : ℕ). n < 4294967295) counted l) ∙ sym counted),
           table_more C v w old c.operators.invariant.kept u c.args.reader.now new (shown c.args.self.now) T U high.0 high.2 advances
       );
       kept = kept_on v.stacks w.stacks u.stacks c.operators.invariant.kept (kept_on w.stacks x.stacks u.stacks kept (search rules));
@@ -136,7 +136,7 @@ operators-preserved g c =
     let old = c.operators.ahead in
     let middle = c.read_frequent.new.reader in
     let next = c.read_one.new.reader in
-    let new = c.go_on_from.new.self in
+    let new = c.go_on_from-in-operators.new.self in
     let T = shown c.operators.self in
     let S = shown c.read_frequent.new.self in
     let U = shown c.read_one.new.self in
@@ -173,11 +173,11 @@ operators-preserved g c =
     advances_on C w u T U (place_of_next old) (rest old) next new (place_stays middle next new first second position) more from_table in
     let took : stepped D y.stacks middle ≡ Some (typed_state u, rest next) = c.in-Ok.ensures.took in
     let step : stepped C w.stacks old ≡ Some (typed_state u, rest new) = sym (stepped_same C D w y old middle there kept left unread) ∙ took ∙ ap (λ xs. Some (typed_state u, xs)) (sym more) in
-    let counted : c.max-height.result ≡ max c.operators.height c.operand_stack_height.result = search rules in
+    let counted : c.max-height-in-operators.result ≡ max c.operators.height c.operand_stack_height-in-operators.result = search rules in
     record {
       reaches = (
           max high.0 (length (typed_state u).operands),
-          (λ l. count_more c.operators.height c.operand_stack_height.result high.0 (length (typed_state u).operands) high.1 c.operand_stack_height.ensures.few c.operand_stack_height.ensures.many (subst (λ (n : ℕ). n < 4294967295) counted l) ∙ sym counted),
+          (λ l. count_more c.operators.height c.operand_stack_height-in-operators.result high.0 (length (typed_state u).operands) high.1 c.operand_stack_height-in-operators.ensures.few c.operand_stack_height-in-operators.ensures.many (subst (λ (n : ℕ). n < 4294967295) counted l) ∙ sym counted),
           table_more C v w old c.operators.invariant.kept u c.args.reader.now new (shown c.args.self.now) T U high.0 high.2 advances
       );
       kept = kept_on v.stacks w.stacks u.stacks c.operators.invariant.kept (kept_on w.stacks y.stacks u.stacks kept (search rules));
@@ -223,7 +223,7 @@ returns-clause-reaches g c =
     let v = c.args.validator.now.validator in
     let w = c.operators.validator.validator in
     let old = c.operators.ahead in
-    let new = c.go_on_from.new.self in
+    let new = c.go_on_from-2.new.self in
     let high = c.operators.invariant.reaches in
     let low : c.operators.height < 4294967295 = search (rules, tests) in
     let first : SameInput c.args.reader.now old = search rules in
