@@ -1,10 +1,9 @@
 -- One instruction more, as it stands in bytes.
-use Rattle.std.proofs.Common.{◌≡◌, refl, sym, ap, subst, ◌∙◌, ℕ, ◌+◌, List, ◌∷◌, Option, Some, None, option_map, Result, Ok, Err, OnOk, arith}
+use Rattle.std.proofs.Common.{◌≡◌, refl, sym, ap, subst, ◌∙◌, ℕ, List, ◌∷◌, Option, Some, None, option_map, Result, Ok, Err, OnOk, arith}
 use Rattle.wasm_readers.specs.Written.{written}
 use Rattle.wasm_readers.specs.WasmReadersBytes.Reader.{SameInput, original, position_in, place_of_next, rest}
 use Rattle.wasm_readers.specs.WasmReadersBytes.declared.binary_reader.BinaryReader.{BinaryReader}
 use Rattle.wasm_spec_rules.specs.Contexts.{Context}
-use Rattle.wasm_spec_rules.specs.Attempts.{◌>>=◌}
 use Rattle.wasm_readers_types.specs.WasmReadersValues.declared.indices.UnpackedIndex.{UnpackedIndex}
 use Rattle.wasm_operators.specs.Instructions.{Instruction, instruction_at}
 use Rattle.wasm_operators.specs.Maps.{map_instruction}
@@ -21,7 +20,7 @@ use Rattle.wasm_operator_validator.proofs.Kept.{kept_around}
 use Rattle.wasm_spec_side_tables.specs.SideTables.{Branch, branches, Nesting, nesting}
 use Rattle.wasm_spec_side_tables.specs.Building.{Built}
 use Rattle.wasm_spec_side_tables.proofs.Lists.{the_same, bind-gives}
-use Rattle.wasm_validator_side_table.specs.Shown.{nested_in, planned_in, noted_in, steps_to}
+use Rattle.wasm_validator_side_table.specs.Shown.{nested_in, planned_in, steps_to}
 use Rattle.wasm_validator_side_table.specs.Tables.{Advances}
 use Rattle.wasm_validator_side_table.specs.Fast.{IsQuiet, AdvancesQuietly, with_noted, nesting_of, Foresees}
 use Rattle.wasm_validator_side_table.specs.declared.frequent.Noted.{Noted}

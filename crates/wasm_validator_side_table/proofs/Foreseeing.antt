@@ -1,5 +1,5 @@
 -- What first bytes say of instructions on blocks and labels.
-use Rattle.std.proofs.Common.{◌≡◌, ◌≤◌, ◌<◌, refl, sym, ap, subst, ◌∙◌, ℕ, zero, suc, ◌+◌, Bool, true, false, ◌==◌, List, [], ◌∷◌, ◌++◌, length, Option, Some, None, option_map, arith, if◌then◌else◌, nat_lt}
+use Rattle.std.proofs.Common.{◌≡◌, ◌≤◌, ◌<◌, refl, sym, ap, subst, ◌∙◌, ℕ, zero, suc, ◌+◌, Bool, true, false, ◌==◌, List, [], ◌∷◌, length, Option, Some, None, option_map, arith, if◌then◌else◌, nat_lt}
 use Rattle.wasm_spec.specs.MatchingTests.{World}
 use Rattle.wasm_spec.specs.Values.{u32_at, s33_index_at}
 use Rattle.wasm_spec.specs.BinaryTypes.{val_at}
@@ -8,10 +8,9 @@ use Rattle.wasm_spec_rules.specs.Contexts.{Context}
 use Rattle.wasm_spec_rules.specs.Attempts.{◌>>=◌}
 use Rattle.wasm_readers_types.specs.WasmReadersValues.declared.indices.UnpackedIndex.{UnpackedIndex}
 use Rattle.wasm_operators.specs.Control.{Block, empty_block, value_block, func_block, Control, block, loop, if_, end_, br, br_if, block_from, block_at, control_from}
-use Rattle.wasm_operators.specs.Instructions.{Instruction, instruction_at, plain_from, of_family, control}
+use Rattle.wasm_operators.specs.Instructions.{Instruction, plain_from, of_family, control}
 use Rattle.wasm_operator_steps.specs.Bodies.{Surroundings}
 use Rattle.wasm_validator_resources.specs.Answers.{world}
-use Rattle.wasm_operator_validator.specs.Typed.{typed_state}
 use Rattle.wasm_operator_validator.specs.Checked.{within}
 use Rattle.wasm_operator_validator.specs.declared.validator.OperatorValidator.{OperatorValidator}
 use Rattle.wasm_spec_side_tables.specs.declared.entry.Entry.{Entry}
@@ -22,7 +21,7 @@ use Rattle.wasm_validator_side_table.specs.Shown.{planned_one, planned_in}
 use Rattle.wasm_validator_side_table.specs.Fast.{with_entry, with_noted, nesting_of, Foresees}
 use Rattle.wasm_validator_side_table.specs.declared.frequent.Noted.{Noted}
 use Rattle.wasm_validator_side_table.specs.declared.frequent.Noted.TheVariants.{Opens, OpensLoop, OpensThen, Closes, Branches}
-use Rattle.wasm_validator_side_table.proofs.Opcodes.{Read, Does, one, family, plainly, below, not_below}
+use Rattle.wasm_validator_side_table.proofs.Opcodes.{Read, Does, one, plainly, below, not_below}
 use Rattle.wasm_validator_side_table.proofs.Planning.{planned_none, planned_alone}
 
 -- instructions that open a block, by any block type

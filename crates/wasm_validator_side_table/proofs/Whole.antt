@@ -1,12 +1,12 @@
 -- The table of a whole body, and what its answer says.
-use Rattle.std.proofs.Common.{◌≡◌, ◌≤◌, ◌<◌, ◌^◌, refl, sym, ap, subst, ◌∙◌, ℕ, ◌+◌, arith, List, [], ◌∷◌, length, Option, Some, Result, Ok, Err}
+use Rattle.std.proofs.Common.{◌≡◌, ◌≤◌, ◌<◌, ◌^◌, refl, sym, ap, subst, ◌∙◌, ℕ, ◌+◌, arith, List, [], ◌∷◌, length, Option, Some, Ok, Err}
 use Rattle.std.proofs.lemmas.List.{length-drop}
 use Rattle.wasm_spec_rules.specs.Contexts.{Context}
 use Rattle.wasm_spec_rules.specs.Attempts.{◌>>=◌}
 use Rattle.wasm_spec_rules.specs.FeatureFlags.{features_of}
 use Rattle.wasm_readers_errors.specs.declared.error.Error.{Error}
 use Rattle.wasm_readers_errors.specs.declared.error.Error.TheVariants.{Refused, OutOfMemory}
-use Rattle.wasm_readers.specs.WasmReadersBytes.Reader.{SameInput, input, original, position_in, place_of_next, rest}
+use Rattle.wasm_readers.specs.WasmReadersBytes.Reader.{input, original, position_in, place_of_next, rest}
 use Rattle.wasm_readers.specs.WasmReadersBytes.declared.binary_reader.BinaryReader.{BinaryReader}
 use Rattle.wasm_readers_types.specs.WasmReadersValues.declared.indices.UnpackedIndex.{UnpackedIndex}
 use Rattle.wasm_operators.specs.Control.{func_block}
@@ -18,13 +18,13 @@ use Rattle.wasm_operator_validator.specs.Typed.{typed_state, locals_in, BeginsBo
 use Rattle.wasm_operator_validator.specs.Checked.{within}
 use Rattle.wasm_operator_validator.specs.declared.validator.OperatorValidator.{OperatorValidator}
 use Rattle.wasm_validator_func.specs.Bodies.{locals_from}
-use Rattle.wasm_validator_func.specs.Functions.{Refuses, Decides, StandsInOrFirst}
+use Rattle.wasm_validator_func.specs.Functions.{Refuses, StandsInOrFirst}
 use Rattle.wasm_spec_side_tables.specs.SideTables.{side_table, greatest_height}
 use Rattle.wasm_spec_side_tables.specs.Building.{Built, resolved_each, begun, built}
 use Rattle.wasm_spec_side_tables.proofs.Entries.{tables_are_right}
 use Rattle.wasm_validator_side_table.specs.Answers.{told, end_of, Makes, StandsSo}
 use Rattle.wasm_validator_side_table.specs.Shown.{shown}
-use Rattle.wasm_validator_side_table.specs.Tables.{AreAt, HasRead, IsTableOf}
+use Rattle.wasm_validator_side_table.specs.Tables.{HasRead, IsTableOf}
 use Rattle.wasm_validator_side_table.specs.declared.error.SideTableError.{SideTableError}
 use Rattle.wasm_validator_side_table.specs.declared.error.SideTableError.TheVariants.{TooLarge}
 use Rattle.wasm_validator_side_table.specs.declared.table.SideTable.{SideTable}

@@ -1,4 +1,4 @@
-use Rattle.std.proofs.Common.{◌≡◌, ◌≤◌, ◌<◌, ◌^◌, ◌-◌, ◌∙◌, sym, ap, subst, refl, ℕ, max, length, Some, Err, false, arith, rules, tests}
+use Rattle.std.proofs.Common.{◌≡◌, ◌<◌, ◌∙◌, sym, ap, subst, refl, ℕ, max, length, Some, Err, false, arith, rules, tests}
 use Rattle.wasm_readers.specs.WasmReadersBytes.Reader.{SameInput, position_in, place_of_next, rest}
 use Rattle.wasm_operator_steps.specs.Steps.{is_finished}
 use Rattle.wasm_readers_types.specs.WasmReadersValues.declared.indices.UnpackedIndex.{UnpackedIndex}
@@ -13,7 +13,7 @@ use Rattle.wasm_validator_func.specs.Bodies.{instructions_from}
 use Rattle.wasm_validator_func.proofs.Machine.{all_of}
 use Rattle.wasm_validator_side_table.specs.Fast.{AdvancesQuietly}
 use Rattle.wasm_validator_side_table.specs.Shown.{shown}
-use Rattle.wasm_validator_side_table.specs.Tables.{Advances, Reaches}
+use Rattle.wasm_validator_side_table.specs.Tables.{Advances}
 use Rattle.wasm_validator_side_table.proofs.Fasting.{advances_from, advances_on, place_stays}
 use Rattle.wasm_validator_side_table.proofs.Reaching.{reaches_first}
 use Rattle.wasm_validator_side_table.proofs.Reading.{count_more}

@@ -1,4 +1,4 @@
-use Rattle.std.proofs.Common.{◌≡◌, ◌==◌, ◌∙◌, ap, subst, [], Some, Err, true, false, length, rules, tests}
+use Rattle.std.proofs.Common.{◌≡◌, ◌==◌, ◌∙◌, ap, subst, Some, Err, true, false, length, rules, tests}
 use Rattle.wasm_spec_rules.specs.Contexts.{Context}
 use Rattle.wasm_readers.specs.WasmReadersBytes.Reader.{place_of_next, rest}
 use Rattle.wasm_readers_types.specs.WasmReadersValues.declared.indices.UnpackedIndex.{UnpackedIndex}
@@ -7,7 +7,7 @@ use Rattle.wasm_validator_resources.specs.Answers.{world}
 use Rattle.wasm_operator_validator.specs.Typed.{typed_state, locals_in}
 use Rattle.wasm_operator_validator.specs.Checked.{within, ReadsTo}
 use Rattle.wasm_validator_func.specs.Bodies.{instructions_from}
-use Rattle.wasm_validator_func.specs.Validated.{body_in, listed_in, Validates}
+use Rattle.wasm_validator_func.specs.Validated.{body_in, Validates}
 use Rattle.wasm_validator_func.proofs.Whole.{no_locals, some_locals, stopped, ended, goes_past}
 use Rattle.wasm_validator_side_table.specs.Shown.{shown}
 use Rattle.wasm_validator_side_table.specs.Tables.{Reaches, HasRead}
