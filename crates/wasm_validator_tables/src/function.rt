@@ -57,7 +57,8 @@ pub fn make_table<A: Allocator + Copy>(
                     return make_for(alloc, it, &body, table);
                 }
             }
-            Ok(ValidPayload::Ok) | Ok(ValidPayload::End(_)) => {}
+            Ok(ValidPayload::Ok) => {}
+            Ok(ValidPayload::End(_types)) => {}
             Err(error) => return Err(NoTable::Refused(error)),
         }
     }
