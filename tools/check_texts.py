@@ -9,13 +9,14 @@ import re
 import sys
 
 ROOT = os.path.dirname(os.path.dirname(os.path.abspath(__file__)))
-SOURCES = ["crates/wasm_readers_errors/src/*.rt", "crates/wasm_validator_core/src/error.rt"]
+SOURCES = ["crates/wasm_readers_errors/src/*.rt", "crates/wasm_readers_features/src/*_rules.rt", "crates/wasm_validator_core/src/error.rt"]
 ROWS = "crates/test_all/data/*/*.rows"
 TESTS = ["crates/test_*/src/*.rt", "tests/**/*.rt*"]
 # What no call of the public ones can make the crates print, and why.
 NEVER = {
     "invalid integer": "each integer prints its kind and its fault",
     "invalid operator": "each rule that isn't named there prints its index",
+    "atomic access": "each number of an atomic access has a name",
     "control frames remain at end of function body or expression": "reading ends first, where an operator is missing",
 }
 

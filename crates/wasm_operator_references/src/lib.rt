@@ -37,15 +37,15 @@ pub mod validator_resources {
 /// Passed on from `wasm_operator_checks`.
 pub mod operator_checks {
     pub use wasm_operator_control::operator_checks::{
-        OperatorError, OperatorFault, OperatorRule, Takes, ValTypes, check_type, check_types, has,
-        plain,
+        OperatorError, OperatorFault, OperatorRule, Takes, ValTypes, check_type, check_types,
+        exact_or_null, has, identity, nullable, plain, reaches,
     };
 }
 
 /// Passed on from `wasm_readers_types`.
 pub mod readers_types {
     pub use wasm_operator_control::readers_types::{
-        AbstractHeapType, HeapType, RefType, UnpackedIndex, ValType,
+        AbstractHeapType, HeapType, PackedIndex, RefType, UnpackedIndex, ValType,
     };
 }
 
@@ -56,5 +56,7 @@ pub mod readers_errors {
 
 /// Passed on from `wasm_operators`.
 pub mod operators {
-    pub use wasm_operator_control::operators::{CastOperator, ConversionOperator, operators_plain};
+    pub use wasm_operator_control::operators::{
+        CastOperator, ConversionOperator, ReferenceOperator, operators_plain,
+    };
 }

@@ -7,10 +7,13 @@ use Rattle.wasm_operator_blocks.specs.WasmOperatorChecks.WasmValidatorResources.
 use Rattle.wasm_operators.specs.Control as control
 use Rattle.wasm_operators.specs.Control.{Block, empty_block, value_block, func_block, Control}
 use Rattle.wasm_operators.specs.Legacy.{Legacy, try_, catch_, rethrow, delegate, catch_all}
-use Rattle.wasm_operators.specs.References.{Reference, ref_null, ref_is_null, ref_eq, ref_as_non_null, ref_func, br_on_null, br_on_non_null, Cast, ref_test, ref_cast, br_on_cast, br_on_cast_fail}
+use Rattle.wasm_operators.specs.References.{Reference, ref_null, ref_is_null, ref_eq, ref_as_non_null, ref_func, br_on_null, br_on_non_null, Cast, ref_test, ref_cast, br_on_cast, br_on_cast_fail, ref_get_desc, ref_cast_desc_eq, br_on_cast_desc_eq, br_on_cast_desc_eq_fail}
 use Rattle.wasm_operators.specs.Instructions as instruction
 use Rattle.wasm_operators.specs.Instructions.{Instruction, instruction_at}
 use Rattle.wasm_operators.specs.Maps.{map_instruction}
+use Rattle.wasm_operator_blocks.specs.WasmOperatorChecks.WasmSpecRules.WasmSpec.Features.{Features}
+use Rattle.wasm_operator_blocks.specs.WasmOperatorChecks.WasmOperatorSteps.Served.{served}
+use Rattle.wasm_operator_arity.proofs.Serving.{served_renamed}
 use Rattle.wasm_readers_types.specs.WasmReadersValues.declared.indices.UnpackedIndex.{UnpackedIndex}
 use Rattle.wasm_operator_validator.specs.Stepped.{IsWrittenInstruction}
 use Rattle.wasm_operators.proofs.Renamings.{instruction-renames}
@@ -71,6 +74,10 @@ reference_written (br_on_non_null l) = tt
 cast_written : (op : Cast ℕ) → Is (instruction.cast op)
 cast_written (ref_test q) = heap_written q.heap
 cast_written (ref_cast q) = heap_written q.heap
+cast_written (ref_get_desc x) = tt
+cast_written (ref_cast_desc_eq q) = heap_written q.heap
+cast_written (br_on_cast_desc_eq l r q) = (heap_written r.heap, heap_written q.heap)
+cast_written (br_on_cast_desc_eq_fail l r q) = (heap_written r.heap, heap_written q.heap)
 cast_written (br_on_cast l r q) = (heap_written r.heap, heap_written q.heap)
 cast_written (br_on_cast_fail l r q) = (heap_written r.heap, heap_written q.heap)
 
@@ -93,6 +100,9 @@ all_written (instruction.structure op) = tt
 all_written (instruction.array op) = tt
 all_written (instruction.vector op values) = tt
 all_written (instruction.atomic op values) = tt
+all_written (instruction.wide op) = tt
+all_written (instruction.shared op values) = tt
+all_written (instruction.continuation op) = tt
 
 abbrev as_written : Instruction ℕ × List ℕ → Instruction UnpackedIndex × List ℕ
 as_written x = (map_instruction written x.0, x.1)
@@ -113,5 +123,6 @@ is_written bytes i more e = read_written (instruction_at (λ n. n) bytes) i more
 pub by_numbers : (bytes : List ℕ) (i : Instruction UnpackedIndex) (more : List ℕ) → instruction_at written bytes ≡ Some (i, more) → instruction_at (λ n. n) bytes ≡ Some (map_instruction written_index i, more)
 by_numbers bytes i more e = (instruction-renames written_index written bytes).is ∙ ap (option_map (λ x. (map_instruction written_index x.0, x.1))) e
 
-pub no_numbers : (bytes : List ℕ) → instruction_at written bytes ≡ None → instruction_at (λ n. n) bytes ≡ None
-no_numbers bytes e = (instruction-renames written_index written bytes).is ∙ ap (option_map (λ x. (map_instruction written_index x.0, x.1))) e
+-- and none where none is served
+pub none_served : (F : Features) (bytes : List ℕ) → served F (instruction_at written bytes) ≡ None → served F (instruction_at (λ n. n) bytes) ≡ None
+none_served F bytes e = ap (served F) (instruction-renames written_index written bytes).is ∙ served_renamed F written_index (instruction_at written bytes) e

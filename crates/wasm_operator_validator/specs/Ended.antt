@@ -5,7 +5,7 @@ use Rattle.wasm_readers.specs.WasmReadersErrors.Refusals.{plain}
 use Rattle.wasm_readers.specs.WasmReadersErrors.declared.error.Error.{Error}
 use Rattle.wasm_readers.specs.WasmReadersErrors.declared.error.Error.TheVariants as error
 use Rattle.wasm_readers.specs.WasmReadersErrors.declared.error.Fault.TheVariants as fault
-use Rattle.wasm_readers.specs.WasmReadersErrors.declared.operator_rules.OperatorRule.TheVariants as rule
+use Rattle.wasm_readers.specs.WasmReadersErrors.WasmReadersFeatures.declared.operator_rules.OperatorRule.TheVariants as rule
 use Rattle.wasm_readers_types.specs.WasmReadersValues.declared.indices.UnpackedIndex.{UnpackedIndex}
 use Rattle.wasm_operator_blocks.specs.WasmOperatorChecks.declared.faults.OperatorError.{OperatorError}
 use Rattle.wasm_operator_blocks.specs.WasmOperatorChecks.declared.faults.OperatorError.TheVariants.{Refused}
@@ -24,7 +24,7 @@ abbrev pub IsRefusal : Result (Unit {0}) Error → Type 0
 IsRefusal (Err (error.Refused r)) = ⊤
 IsRefusal _ = ⊥
 
--- the refusal of the bytes where they begin with no instruction, and else that the validator failed
+-- the refusal of the bytes where they begin with no instruction that is served, and else that the validator failed
 abbrev pub EndsReading : Result (Unit {0}) Error → ℕ → Option (Instruction UnpackedIndex × List ℕ) → Type 0
 EndsReading r offset None = IsRefusal r
 EndsReading r offset (Some i) = r ≡ failure_at offset

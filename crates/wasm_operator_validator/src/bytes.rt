@@ -4,6 +4,8 @@ ghost use Rattle.std.specs.Prelude.{◌≡◌, ◌≤◌, ◌<◌, ◌||◌, Som
 ghost use Rattle.wasm_readers.specs.Written.{written};
 ghost use Rattle.wasm_readers.specs.WasmReadersBytes.Reader.{SameInput, position_in, place_of_next, rest};
 ghost use Rattle.wasm_operators.specs.Instructions.{instruction_at};
+ghost use Rattle.wasm_operator_blocks.specs.WasmOperatorChecks.WasmSpecRules.FeatureFlags.{features_of};
+ghost use Rattle.wasm_operator_blocks.specs.WasmOperatorChecks.WasmOperatorSteps.Served.{served};
 ghost use Rattle.wasm_operator_blocks.specs.WasmOperatorChecks.WasmOperatorStacks.Seen.{state_of, Kept};
 ghost use Rattle.wasm_operator_validator.specs.Typed.{typed_state};
 ghost use Rattle.wasm_operator_validator.specs.Checked.{StandsIn};
@@ -15,11 +17,11 @@ use crate::seldom::{is_seldom, next_seldom};
 use crate::steps::step;
 use crate::validator::OperatorValidator;
 use std::alloc::Allocator;
+use wasm_operator_arity::read_served;
 use wasm_operator_blocks::operator_checks::OperatorError;
 use wasm_operator_blocks::operator_stacks::Stacks;
 use wasm_operator_blocks::validator_resources::WasmModuleResources;
 use wasm_operator_fast::{NotTaken, fast_step};
-use wasm_operators::read_operator;
 use wasm_readers::BinaryReader;
 use wasm_readers::readers_errors::Error;
 
@@ -175,13 +177,13 @@ impl<A: Allocator> OperatorValidator<A> {
         self.fast_op(resources, reader)
     }
 
-    /// Reads the next operator, and takes its step: [`wasm_operators::read_operator`] and then
+    /// Reads the next operator, and takes its step: [`read_served`] and then
     /// [`OperatorValidator::op`].
     ///
     /// # Errors
     ///
-    /// Refuses bytes that aren't an operator, and at its offset an operator that isn't valid here;
-    /// and all once something was refused. Answers want of memory.
+    /// Refuses bytes that aren't an operator that the features serve, and at its offset an operator
+    /// that isn't valid here; and all once something was refused. Answers want of memory.
     #[cold]
     #[inline(never)]
     #[tactic(auto, using(crate::proofs::Ending::ends))]
@@ -194,7 +196,8 @@ impl<A: Allocator> OperatorValidator<A> {
             (stepped (T.context resources.now) self.old.stacks reader.old)
             (typed_state self.new) (rest reader.new) }
         ensures ended { self.old.failed ≡ true → EndsReading result (place_of_next reader.old)
-            (instruction_at written (rest reader.old))
+            (served (features_of self.old.stacks.features)
+            (instruction_at written (rest reader.old)))
             × (typed_state self.new ≡ typed_state self.old) }
         ensures input { SameInput reader.old reader.new }
         ensures onward { position_in reader.old ≤ position_in reader.new }
@@ -204,7 +207,7 @@ impl<A: Allocator> OperatorValidator<A> {
         ensures place { IfErr result (StandsIn reader.old) }
     {
         let offset = reader.original_position();
-        let op = match read_operator(reader) {
+        let op = match read_served(reader, *self.features()) {
             Ok(op) => op,
             Err(refusal) => {
                 self.fail();

@@ -1,5 +1,6 @@
 pub mod Attempts
 pub mod Within
+pub mod Describing
 pub mod Bridge
 pub mod Structure
 pub mod Outer
@@ -17,6 +18,8 @@ pub mod Unique
 pub mod Orders
 pub mod Accepted
 pub mod Names
+pub mod Found
+pub mod Continued
 pub mod Fixed
 pub mod Growing
 pub mod Composing

@@ -277,6 +277,10 @@ impl<'a, A: Allocator + Copy> WasmModuleResources for ModuleResources<'a, A> {
         }
     }
 
+    fn sub_type_of(&self, identity: UnpackedIndex) -> Option<&SubType<A>> {
+        self.type_for(identity)
+    }
+
     fn sub_type_at_id(&self, id: CoreTypeId) -> &SubType<A> {
         match self.type_of(id) {
             Some(ty) => ty,

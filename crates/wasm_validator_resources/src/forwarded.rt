@@ -5,7 +5,8 @@ use std::alloc::Allocator;
 use std::rc::Rc;
 use wasm_readers_errors::Refusal;
 use wasm_readers_types::{
-    CoreTypeId, FuncType, GlobalType, HeapType, MemoryType, RefType, SubType, TableType, ValType,
+    CoreTypeId, FuncType, GlobalType, HeapType, MemoryType, RefType, SubType, TableType,
+    UnpackedIndex, ValType,
 };
 
 impl<'a, T: WasmModuleResources> WasmModuleResources for &'a T {
@@ -36,6 +37,11 @@ impl<'a, T: WasmModuleResources> WasmModuleResources for &'a T {
     #[inline]
     fn sub_type_at(&self, type_index: u32) -> Option<&SubType<Self::A>> {
         (**self).sub_type_at(type_index)
+    }
+
+    #[inline]
+    fn sub_type_of(&self, identity: UnpackedIndex) -> Option<&SubType<Self::A>> {
+        (**self).sub_type_of(identity)
     }
 
     #[inline]
@@ -127,6 +133,11 @@ impl<T: WasmModuleResources, S: Allocator> WasmModuleResources for Rc<T, S> {
     #[inline]
     fn sub_type_at(&self, type_index: u32) -> Option<&SubType<Self::A>> {
         (**self).sub_type_at(type_index)
+    }
+
+    #[inline]
+    fn sub_type_of(&self, identity: UnpackedIndex) -> Option<&SubType<Self::A>> {
+        (**self).sub_type_of(identity)
     }
 
     #[inline]
