@@ -90,18 +90,23 @@
    limits has no proposal in missing_features: what would lift it is to leave
    RUTHVELKA_CRATE_LIMITS out.
 
-   Left out. These are refused under all features:
-   - components;
-   - the operators of stack switching; continuation types are validated;
-   - of custom descriptors, ref.get_desc and the casts and branches by descriptors;
-   - of shared-everything threads, the atomic accesses to globals, tables, structures and arrays;
-   - the operators of wide arithmetic: i64.add128, i64.sub128, i64.mul_wide_s and i64.mul_wide_u;
-   - memory.discard.
-   These are refused without a feature of their own, which RUTHVELKA_STANDARD doesn't have:
+   Left out. Components are refused under all features. These are refused without a feature of
+   their own, which RUTHVELKA_STANDARD doesn't have:
    - the operators on vectors other than v128.const, without RUTHVELKA_VECTOR_OPERATORS;
    - the atomic operators on memories and atomic.fence, without RUTHVELKA_ATOMIC_OPERATORS;
    - try, catch, catch_all, rethrow and delegate, the operators of legacy exceptions, without
-     RUTHVELKA_LEGACY_EXCEPTIONS.
+     RUTHVELKA_LEGACY_EXCEPTIONS;
+   - i64.add128, i64.sub128, i64.mul_wide_s and i64.mul_wide_u, the operators of wide arithmetic,
+     without RUTHVELKA_WIDE_ARITHMETIC;
+   - memory.discard, without RUTHVELKA_MEMORY_CONTROL;
+   - ref.get_desc, and the casts and branches by descriptors, without
+     RUTHVELKA_DESCRIPTOR_OPERATORS;
+   - the atomic accesses to globals, tables, structures and arrays, and pause, without
+     RUTHVELKA_SHARED_ATOMIC_OPERATORS;
+   - the operators of stack switching, without RUTHVELKA_STACK_SWITCHING_OPERATORS; continuation
+     types are validated with RUTHVELKA_STACK_SWITCHING alone.
+   A refusal for want of one of the last five has no proposal in missing_features: their opcodes
+   are none then.
 
    Trust. Besides what stands under "Handles", the library trusts its caller for what C can't test:
    that each pointer is of as many items as its count says, that what a call writes overlaps
@@ -134,7 +139,7 @@ extern "C" {
 #define RUTHVELKA_SIMD (UINT64_C(1) << 4) /* vectors of 128 bits */
 #define RUTHVELKA_THREADS (UINT64_C(1) << 5) /* shared memories */
 #define RUTHVELKA_SHARED_EVERYTHING_THREADS (UINT64_C(1) << 6)
-    /* types, tables and globals that are shared between threads; see "Left out" */
+    /* types, tables and globals that are shared between threads */
 #define RUTHVELKA_FLOATS (UINT64_C(1) << 7) /* floating-point types */
 #define RUTHVELKA_MULTI_MEMORY (UINT64_C(1) << 8) /* more than one memory */
 #define RUTHVELKA_EXCEPTIONS (UINT64_C(1) << 9) /* tags, and references to exceptions */
@@ -160,11 +165,22 @@ extern "C" {
     /* try, catch, catch_all, rethrow and delegate; they need EXCEPTIONS too */
 #define RUTHVELKA_CRATE_LIMITS (UINT64_C(1) << 22)
     /* no proposal: the limits of the Rust crate's readers; see "Gates" */
+#define RUTHVELKA_WIDE_ARITHMETIC (UINT64_C(1) << 23)
+    /* sums, differences and products of integers of 128 bits */
+#define RUTHVELKA_MEMORY_CONTROL (UINT64_C(1) << 24)
+    /* memory.discard, which gives up the content of pages */
+#define RUTHVELKA_DESCRIPTOR_OPERATORS (UINT64_C(1) << 25)
+    /* ref.get_desc, casts and branches by descriptors; they need CUSTOM_DESCRIPTORS too */
+#define RUTHVELKA_SHARED_ATOMIC_OPERATORS (UINT64_C(1) << 26)
+    /* atomic accesses to globals, tables, structures, arrays; they need SHARED_EVERYTHING_THREADS */
+#define RUTHVELKA_STACK_SWITCHING_OPERATORS (UINT64_C(1) << 27)
+    /* the operators on continuations; they need STACK_SWITCHING too */
 /* All but SHARED_EVERYTHING_THREADS, CUSTOM_PAGE_SIZES, CUSTOM_DESCRIPTORS, STACK_SWITCHING,
-   COMPONENT_MODEL, VECTOR_OPERATORS, ATOMIC_OPERATORS and LEGACY_EXCEPTIONS; and without
-   CRATE_LIMITS. That is the Core Specification 3.0, but for two things: the operators on vectors
-   other than v128.const are missing, which RUTHVELKA_VECTOR_OPERATORS adds; and RUTHVELKA_THREADS
-   is on, so memories may be shared, which the specification has not. */
+   COMPONENT_MODEL, VECTOR_OPERATORS, ATOMIC_OPERATORS, LEGACY_EXCEPTIONS, WIDE_ARITHMETIC,
+   MEMORY_CONTROL, DESCRIPTOR_OPERATORS, SHARED_ATOMIC_OPERATORS and STACK_SWITCHING_OPERATORS; and
+   without CRATE_LIMITS. That is the Core Specification 3.0, but for two things: the operators on
+   vectors other than v128.const are missing, which RUTHVELKA_VECTOR_OPERATORS adds; and
+   RUTHVELKA_THREADS is on, so memories may be shared, which the specification has not. */
 #define RUTHVELKA_STANDARD UINT64_C(32703)
 
 /* ruthvelka_version: the version of the library that is linked, as RUTHVELKA_VERSION is that of

@@ -243,7 +243,7 @@ static void try_allocators(void) {
     lacking[0].size--, lacking[1].allocate = NULL, lacking[2].resize = NULL, lacking[3].release = NULL;
     for (int it = 0; it < 4; it++)
         expect("an allocator that lacks something", ruthvelka_validator_new(&validator, STANDARD, &lacking[it]) == WRONG && is_nothing(&validator));
-    expect("an unknown feature", ruthvelka_validator_new(&validator, UINT64_C(1) << 23, NULL) == WRONG && is_nothing(&validator));
+    expect("an unknown feature", ruthvelka_validator_new(&validator, UINT64_C(1) << 40, NULL) == WRONG && is_nothing(&validator));
 }
 
 /* Validators of two threads, each over an arena of its own. */

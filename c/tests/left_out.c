@@ -4,7 +4,7 @@
 #include <stdio.h>
 #include <string.h>
 
-#define ALL ((UINT64_C(1) << 22) - 1)
+#define ALL ((RUTHVELKA_STACK_SWITCHING_OPERATORS << 1) - 1 - RUTHVELKA_CRATE_LIMITS)
 static long wrong;
 
 /* Validates a module with a memory and a function whose body is `unreachable`, these bytes, `unreachable` and `end`. The bytes begin at byte 29. */
@@ -29,24 +29,34 @@ static void expect_refused(const char *what, const uint8_t *code, uint8_t length
 /* So many operators from this one on, by their first byte or, behind a prefix, the second. Behind them come zeros. */
 struct group {
     const char *name;
+    uint64_t feature;
     uint8_t code[2];
     int at, count;
 };
 
+/* Without their feature their opcodes are none, and no proposal is missing; with it they are read. */
 static void try_group(const struct group *group) {
     for (int it = 0; it < group->count; it++) {
         uint8_t code[16] = {group->code[0], group->code[1]};
+        char text[64];
+        struct ruthvelka_report report;
         code[group->at] = (uint8_t)(code[group->at] + it);
-        expect_refused(group->name, code, sizeof code, ALL, "illegal opcode");
+        expect_refused(group->name, code, sizeof code, RUTHVELKA_STANDARD, "illegal opcode");
+        expect_refused(group->name, code, sizeof code, ALL & ~group->feature, "illegal opcode");
+        const int is_right = validate(code, sizeof code, RUTHVELKA_STANDARD, text, &report) == RUTHVELKA_REFUSED && !report.missing_features
+            && (validate(code, sizeof code, ALL, text, NULL) == RUTHVELKA_VALID || memcmp(text, "illegal opcode", 14));
+        if (!is_right) printf("wrong: %s, with its feature or without\n", group->name), wrong++;
     }
 }
 
 static void try_left_out(void) {
-    static const struct group groups[] = {{"an operator of stack switching", {0xe0}, 0, 7}, 
-        {"ref.get_desc, or a cast or a branch by a descriptor", {0xfb, 0x22}, 1, 5},
-        {"memory.discard", {0xfc, 0x12}, 1, 1}, {"an operator of wide arithmetic", {0xfc, 0x13}, 1, 4},
-        {"an atomic access to a global, a table, a structure or an array", {0xfe, 0x4f}, 1, 35}};
+    static const struct group groups[] = {{"an operator of stack switching", RUTHVELKA_STACK_SWITCHING_OPERATORS, {0xe0}, 0, 7},
+        {"ref.get_desc, or a cast or a branch by a descriptor", RUTHVELKA_DESCRIPTOR_OPERATORS, {0xfb, 0x22}, 1, 5},
+        {"memory.discard", RUTHVELKA_MEMORY_CONTROL, {0xfc, 0x12}, 1, 1}, {"an operator of wide arithmetic", RUTHVELKA_WIDE_ARITHMETIC, {0xfc, 0x13}, 1, 4},
+        {"an atomic access to a global, a table, a structure or an array", RUTHVELKA_SHARED_ATOMIC_OPERATORS, {0xfe, 0x4f}, 1, 35}};
+    static const uint8_t none[][2] = {{0xe7, 0x00}, {0xfb, 0x27}, {0xfc, 0x17}, {0xfe, 0x73}};
     for (size_t it = 0; it < sizeof groups / sizeof *groups; it++) try_group(&groups[it]);
+    for (size_t it = 0; it < sizeof none / sizeof *none; it++) expect_refused("an opcode that none has", none[it], 2, ALL, "illegal opcode");
 }
 
 /* Each is valid under all features, and refused without its own. */
@@ -62,9 +72,14 @@ static void try_opt_in(void) {
         {"v128.load", RUTHVELKA_VECTOR_OPERATORS, vectors, 4, {0xfd, 0x00, 0x00, 0x00}},
         {"atomic.fence", RUTHVELKA_ATOMIC_OPERATORS, atomics, 3, {0xfe, 0x03, 0x00}},
         {"i32.atomic.load", RUTHVELKA_ATOMIC_OPERATORS, atomics, 4, {0xfe, 0x10, 0x02, 0x00}},
+        {"pause", RUTHVELKA_SHARED_ATOMIC_OPERATORS, "illegal opcode 0xfe 4", 2, {0xfe, 0x04}},
         {"try", RUTHVELKA_LEGACY_EXCEPTIONS, legacy, 3, {0x06, 0x40, 0x0b}},
         {"try and rethrow", RUTHVELKA_LEGACY_EXCEPTIONS, legacy, 6, {0x06, 0x40, 0x19, 0x09, 0x00, 0x0b}},
-        {"try and delegate", RUTHVELKA_LEGACY_EXCEPTIONS, legacy, 4, {0x06, 0x40, 0x18, 0x00}}};
+        {"try and delegate", RUTHVELKA_LEGACY_EXCEPTIONS, legacy, 4, {0x06, 0x40, 0x18, 0x00}},
+        {"i64.add128", RUTHVELKA_WIDE_ARITHMETIC, "illegal opcode 0xfc 19", 2, {0xfc, 0x13}},
+        {"i64.mul_wide_u", RUTHVELKA_WIDE_ARITHMETIC, "illegal opcode 0xfc 22", 2, {0xfc, 0x16}},
+        {"memory.discard", RUTHVELKA_MEMORY_CONTROL, "illegal opcode 0xfc 18", 3, {0xfc, 0x12, 0x00}}};
+
     for (size_t it = 0; it < sizeof operators / sizeof *operators; it++) {
         char text[64];
         expect_refused(operators[it].name, operators[it].code, operators[it].length, ALL & ~operators[it].feature, operators[it].why);

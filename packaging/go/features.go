@@ -20,7 +20,7 @@ const (
 	SIMD WasmFeatures = 1 << 4
 	// Threads: shared memories.
 	Threads WasmFeatures = 1 << 5
-	// SharedEverythingThreads: types, tables and globals that are shared between threads, in part.
+	// SharedEverythingThreads: types, tables and globals that are shared between threads.
 	SharedEverythingThreads WasmFeatures = 1 << 6
 	// Floats: floating-point types.
 	Floats WasmFeatures = 1 << 7
@@ -54,6 +54,16 @@ const (
 	LegacyExceptions WasmFeatures = 1 << 21
 	// CrateLimits: no proposal: the limits of the Rust crate's readers, for hosts that take modules from strangers.
 	CrateLimits WasmFeatures = 1 << 22
+	// WideArithmetic: sums, differences and products of integers of 128 bits.
+	WideArithmetic WasmFeatures = 1 << 23
+	// MemoryControl: memory.discard, which gives up the content of pages.
+	MemoryControl WasmFeatures = 1 << 24
+	// DescriptorOperators: ref.get_desc, casts and branches by descriptors; they need CUSTOM_DESCRIPTORS too.
+	DescriptorOperators WasmFeatures = 1 << 25
+	// SharedAtomicOperators: atomic accesses to globals, tables, structures, arrays; they need SHARED_EVERYTHING_THREADS.
+	SharedAtomicOperators WasmFeatures = 1 << 26
+	// StackSwitchingOperators: the operators on continuations; they need STACK_SWITCHING too.
+	StackSwitchingOperators WasmFeatures = 1 << 27
 )
 
 const (
@@ -94,7 +104,12 @@ const (
 		ComponentModel |
 		VectorOperators |
 		AtomicOperators |
-		LegacyExceptions
+		LegacyExceptions |
+		WideArithmetic |
+		MemoryControl |
+		DescriptorOperators |
+		SharedAtomicOperators |
+		StackSwitchingOperators
 )
 
 var names = map[string]WasmFeatures{
@@ -121,4 +136,9 @@ var names = map[string]WasmFeatures{
 	"ATOMIC_OPERATORS":          AtomicOperators,
 	"LEGACY_EXCEPTIONS":         LegacyExceptions,
 	"CRATE_LIMITS":              CrateLimits,
+	"WIDE_ARITHMETIC":           WideArithmetic,
+	"MEMORY_CONTROL":            MemoryControl,
+	"DESCRIPTOR_OPERATORS":      DescriptorOperators,
+	"SHARED_ATOMIC_OPERATORS":   SharedAtomicOperators,
+	"STACK_SWITCHING_OPERATORS": StackSwitchingOperators,
 }

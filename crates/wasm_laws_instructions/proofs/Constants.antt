@@ -121,6 +121,9 @@ constant-served F (instruction.structure op) e = struct-served op
 constant-served F (instruction.array op) e = array-served op
 constant-served F (instruction.vector op values) e = no e
 constant-served F (instruction.atomic op values) e = no e
+constant-served F (instruction.wide op) e = no e
+constant-served F (instruction.shared op values) e = no e
+constant-served F (instruction.continuation op) e = no e
 
 module _ {R : Type 0} (W : World R) (o : IsInOrder W) (B : Surroundings R) (imported : ℕ) where
   all-served : (ops : List (Instruction ℕ)) → All (λ op. is_allowed B imported op ≡ true) ops → AreServedAs false ops

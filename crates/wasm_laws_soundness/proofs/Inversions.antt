@@ -17,6 +17,7 @@ use Rattle.wasm_operators.specs.WasmOperatorsPlain.declared.conversions.Conversi
 use Rattle.wasm_operators.specs.WasmOperatorsPlain.declared.structs.StructOperator.{StructOperator}
 use Rattle.wasm_operators.specs.WasmOperatorsPlain.declared.structs.StructOperator.TheVariants.{StructNew}
 use Rattle.wasm_operators.specs.WasmOperatorsPlain.declared.arrays.ArrayOperator.{ArrayOperator}
+use Rattle.wasm_operators.specs.WasmOperatorsAtomic.declared.wide.WideOperator.{WideOperator}
 use Rattle.wasm_operators.specs.WasmOperatorsPlain.declared.arrays.ArrayOperator.TheVariants.{ArrayNew}
 use Rattle.wasm_operators.specs.WasmOperatorsPlain.declared.signatures.Signature.{Signature as OperatorSignature}
 use Rattle.wasm_operators.specs.WasmOperatorsPlain.declared.signatures.Signature.TheVariants.{Unary, Binary}
@@ -24,8 +25,13 @@ use Rattle.wasm_operators.specs.declared.immediates.ImmediateValues.{ImmediateVa
 use Rattle.wasm_operator_steps.specs.Forms.{memarg_of}
 use Rattle.wasm_operator_steps.specs.Bodies.{Surroundings}
 use Rattle.wasm_operator_steps.specs.Matching.{matches_vals}
-use Rattle.wasm_operator_steps.specs.Actions.{OperandTypes, these, label, returned, repeated, front, last, joined, params, results, of_type, of_function, table_address, Check, each_matches}
-use Rattle.wasm_operator_steps.specs.Shapes.{Shape, plain, ending, measuring, comparing, converting, computing, table_shape, access_shape, memory_shape, conversion_shape, struct_shape, array_shape, address_of, nothing, one, nullable_to, difference, returns, holds_functions, indirect_checks, reference_to, branch_checks, kept}
+use Rattle.wasm_operators.specs.WasmOperatorsAtomic.declared.shared_forms.SharedForm.{SharedForm}
+use Rattle.wasm_operators.specs.WasmOperatorsAtomic.declared.shared_forms.SharedForm.TheVariants as form
+use Rattle.wasm_operators.specs.WasmOperatorsAtomic.declared.shared_forms.Access.{Access}
+use Rattle.wasm_operators.specs.WasmOperatorsAtomic.declared.shared_forms.Access.TheVariants as access
+use Rattle.wasm_operators.specs.WasmOperatorsProposals.declared.accesses.AccessValues.{AccessValues}
+use Rattle.wasm_operator_steps.specs.Actions.{OperandTypes, these, label, returned, repeated, front, last, joined, params, results, of_type, of_function, table_address, table_element, global, field, element, Check, each_matches}
+use Rattle.wasm_operator_steps.specs.Shapes.{Shape, plain, ending, measuring, comparing, converting, computing, table_shape, access_shape, memory_shape, conversion_shape, struct_shape, array_shape, wide_shape, address_of, access_taken, access_of, shared_place, shared_value, nothing, one, nullable_to, difference, returns, holds_functions, indirect_checks, reference_to, branch_checks, kept}
 use Rattle.wasm_operator_steps.specs.Meanings.{signature_at, address}
 use Rattle.wasm_operator_steps.specs.Meanings as meaning
 use Rattle.wasm_spec_instructions.specs.ValueTypes.{ValueType, val, vals, reference_at, Match}
@@ -108,12 +114,32 @@ pub array-computes : (op : ArrayOperator) → is_computing (array_shape op) ≡ 
 array-computes (ArrayNew x) = refl
 array-computes _ = refl
 
+pub wide-computes : (op : WideOperator) → is_computing (wide_shape op) ≡ true
+wide-computes op = refl
+
 address-computes : (o : Option MemArg) → is_fixed (address_of o) ≡ true
 address-computes None = refl
 address-computes (Some m) = refl
 
 pub form-computes : (values : ImmediateValues) → (is_fixed (address_of (memarg_of values)) && true) ≡ true
 form-computes values = ap (λ (b : Bool). b && true) (address-computes (memarg_of values))
+
+-- what atomic accesses to globals, tables, structures and arrays take
+taken-computes : (a : Access) (t u : OperandTypes) → is_fixed t ≡ true → is_fixed u ≡ true → is_fixed (access_taken a t u) ≡ true
+taken-computes access.Get t u h k = h
+taken-computes access.Set t u h k = rw (h, k) refl
+taken-computes access.Compute t u h k = rw (h, k) refl
+taken-computes access.Exchange t u h k = rw (h, k) refl
+taken-computes access.Compare t u h k = rw (h, k) refl
+
+pub access_form-computes : (f : SharedForm) (v : AccessValues) → is_fixed (access_taken (access_of f) (shared_place f v) (shared_value f v)) ≡ true
+access_form-computes form.Pause v = refl
+access_form-computes (form.Global a) v = taken-computes a nothing (global v.index) refl refl
+access_form-computes (form.Table a) v = taken-computes a (table_address v.index) (table_element v.index) refl refl
+access_form-computes (form.Field a) v = taken-computes a (one (nullable_to v.index)) (field v.index v.field_index) refl refl
+access_form-computes form.PackedField v = refl
+access_form-computes (form.Element a) v = taken-computes a (these (nullable_to v.index ∷ i32 ∷ [])) (element v.index) refl refl
+access_form-computes form.PackedElement v = refl
 
 module _ {R : Type 0} (W : World R) (B : Surroundings R) where
   fixed :

@@ -41,7 +41,8 @@ use Rattle.wasm_laws_soundness.specs.Roles as role
 use Rattle.wasm_laws_soundness.specs.Roles.{Callee, by_index, by_reference, by_table, role_of, operand_count}
 use Rattle.wasm_laws_soundness.specs.Interpreter.{Task, does, invokes, label_for, finish, enter_function, with_function, invoke, invoke_in_place, if_of_type, with_callee, by_cast, step_as, step}
 use Rattle.wasm_laws_soundness.specs.Laws.{AreSound}
-use Rattle.wasm_laws_soundness.proofs.Inversions.{sets-nothing, is_computing, counted, table-computes, access-computes, memory-computes, signature-computes, conversion-computes, struct-computes, array-computes, form-computes, function_signed, gives_null as gives_a_null, selects_of, calls_by_reference, calls_by_table, calls_by_reference_in_place, calls_by_table_in_place, Casts, branches_on_cast as are_cast, branches_on_failure as are_not_cast}
+use Rattle.wasm_operators.specs.WasmOperatorsAtomic.SharedForms as shareds
+use Rattle.wasm_laws_soundness.proofs.Inversions.{sets-nothing, is_computing, counted, table-computes, access-computes, memory-computes, signature-computes, conversion-computes, struct-computes, array-computes, form-computes, wide-computes, access_form-computes, function_signed, gives_null as gives_a_null, selects_of, calls_by_reference, calls_by_table, calls_by_reference_in_place, calls_by_table_in_place, Casts, branches_on_cast as are_cast, branches_on_failure as are_not_cast}
 
 -- the label that a table names
 pub record Labelled {R : Type 0} (W : World R) (labels : List (List (Val R))) (ts : List (ValueType R)) (n : ℕ) : Type 0 where
@@ -714,6 +715,7 @@ module _ {R : Type 0} (W : World R) (P : Primitives R) (a : AreSound W P) (again
     cast-steps : (op : Cast ℕ) → Stepped (instruction.cast op)
     cast-steps (references.ref_test q) ts us r rest s h = computes (instruction.cast (references.ref_test q)) ts us refl refl r rest s h
     cast-steps (references.ref_cast q) ts us r rest s h = computes (instruction.cast (references.ref_cast q)) ts us refl refl r rest s h
+    cast-steps (references.ref_cast_desc_eq q) ts us r rest s h = computes (instruction.cast (references.ref_cast_desc_eq q)) ts us refl refl r rest s h
     cast-steps (references.br_on_cast l p q) ts us r rest s h =
         let k = are_cast W B C l p q ts us r in
         as_typed ts us (vals k.casts.sent ++ val (reference k.casts.from) ∷ []) (vals k.casts.sent ++ val (reference k.casts.lacking) ∷ []) rest s
@@ -745,3 +747,6 @@ module _ {R : Type 0} (W : World R) (P : Primitives R) (a : AreSound W P) (again
     steps (instruction.array op) ts us r rest s h = computes (instruction.array op) ts us refl (array-computes op) r rest s h
     steps (instruction.vector op values) ts us r rest s h = computes (instruction.vector op values) ts us refl (form-computes values) r rest s h
     steps (instruction.atomic op values) ts us r rest s h = computes (instruction.atomic op values) ts us refl (form-computes values) r rest s h
+    steps (instruction.wide op) ts us r rest s h = computes (instruction.wide op) ts us refl (wide-computes op) r rest s h
+    steps (instruction.shared op values) ts us r rest s h =
+        computes (instruction.shared op values) ts us refl (access_form-computes (shareds.shared_form_of op) values) r rest s h

@@ -11,9 +11,9 @@ use Rattle.wasm_operators.specs.Control.{Block, empty_block, value_block, func_b
 use Rattle.wasm_operator_steps.specs.WasmSpecRules.Attempts.{◌>>=◌, last_of, front_of}
 use Rattle.wasm_operator_steps.specs.Bodies.{Surroundings}
 use Rattle.wasm_operator_steps.specs.Machine.{Kind, block_kind, loop_kind, if_kind, else_kind, try_table_kind, legacy_try_kind, legacy_catch_kind, legacy_catch_all_kind, Frame, State}
-use Rattle.wasm_operator_steps.specs.Actions.{Signed, of_type, of_function, of_tag, OperandTypes, these, params, results, label, returned, local, global, function_reference, new_reference, fields, element, field, table_address, memory_address, table_element, segment, lesser_table_address, lesser_memory_address, top, descriptor_of, repeated, front, last, joined}
+use Rattle.wasm_operator_steps.specs.Actions.{Signed, of_type, of_function, of_tag, OperandTypes, these, params, results, label, returned, local, global, function_reference, new_reference, fields, element, field, table_address, memory_address, table_element, segment, lesser_table_address, lesser_memory_address, top, descriptor_of, descriptor_for, repeated, front, last, joined}
 use Rattle.wasm_operator_steps.specs.WasmSpecRules.Signatures.{Signature, signature_of, resolve_val, resolve_vals}
-use Rattle.wasm_operator_steps.specs.Meanings.{fields_of, copies, one, unpack_field, label_by, ref_to, exact_if, function_heap, element_at, field_at, address, table_is_64, memory_is_64, both, top_heap, descriptor_at, sub_at, type_signature, block_signature, signature_at, types_at}
+use Rattle.wasm_operator_steps.specs.Meanings.{fields_of, copies, one, unpack_field, label_by, ref_to, exact_if, function_heap, element_at, field_at, address, table_is_64, memory_is_64, both, top_heap, descriptor_at, descriptor_heap, sub_at, type_signature, block_signature, signature_at, types_at}
 use Rattle.wasm_operator_arity.specs.Arities.{takes_of, gives_of, func_counts, field_count, one_of, label_count, type_counts, signature_counts, block_counts, how_many}
 use Rattle.wasm_operator_arity.specs.Lengths.{lengths_of, asked_of, CountsAreLengths}
 
@@ -169,6 +169,7 @@ module _ (W : World UnpackedIndex) (B : Surroundings UnpackedIndex) (s : State U
   counted (lesser_memory_address m n) vs e = one-length (option_map address (both (memory_is_64 W B m) (memory_is_64 W B n))) vs e
   counted (top r) vs e = one-length (option_map (ref_to true) (top_heap W B r.heap)) vs e
   counted (descriptor_of n) vs e = one-length (option_map (λ a. ref_to true (exact a)) (descriptor_at W B n)) vs e
+  counted (descriptor_for x) vs e = one-length (option_map (ref_to true) (descriptor_heap W B x)) vs e
 
 pub counts_are_lengths : CountsAreLengths
 counts_are_lengths W B s t vs e = counted W B s t vs e

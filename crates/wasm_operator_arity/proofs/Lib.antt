@@ -1,3 +1,4 @@
 pub mod Frames
 pub mod LengthsCounted
 pub mod FormCounts
+pub mod Serving

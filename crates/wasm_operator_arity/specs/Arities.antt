@@ -1,8 +1,8 @@
 -- How many operands instructions take and give: as many as there are types in what their shapes take and give.
 -- Core Specification 3.0, Validation, Instructions.
-use Rattle.std.specs.Prelude.{ℕ, ◌+◌, ◌-◌, ◌*◌, ◌^◌, ◌&&◌, ◌==◌, nat_lt, if◌then◌else◌, length, slice_get, Option, Some, None}
+use Rattle.std.specs.Prelude.{ℕ, ◌+◌, ◌-◌, ◌*◌, ◌^◌, ◌&&◌, ◌==◌, nat_lt, if◌then◌else◌, List, [], ◌∷◌, length, slice_get, Option, Some, None}
 use Rattle.std.specs.Option.{option_map, option_and_then}
-use Rattle.wasm_operator_steps.specs.WasmSpecRules.WasmSpec.Syntax.{Comp, func, struct}
+use Rattle.wasm_operator_steps.specs.WasmSpecRules.WasmSpec.Syntax.{Heap, abstract_heap, concrete, exact, Val, reference, Sub, Comp, func, struct}
 use Rattle.wasm_readers_types.specs.WasmReadersValues.declared.indices.UnpackedIndex.{UnpackedIndex}
 use Rattle.wasm_readers_types.specs.WasmReadersValues.declared.indices.UnpackedIndex.TheVariants.{Module, RecGroup, Id}
 use Rattle.wasm_operators.specs.Control.{Block, empty_block, value_block, func_block}
@@ -11,9 +11,11 @@ use Rattle.wasm_operators.specs.SeenOperators.{operator_of}
 use Rattle.wasm_operators.specs.declared.operators.Operator.{Operator}
 use Rattle.wasm_operator_steps.specs.WasmSpecRules.Attempts.{last_of}
 use Rattle.wasm_operator_steps.specs.Machine.{Kind, loop_kind}
-use Rattle.wasm_operator_steps.specs.Actions.{Signed, of_type, of_function, of_tag, OperandTypes, these, params, results, label, returned, fields, repeated, front, last, joined}
-use Rattle.wasm_operator_steps.specs.Shapes.{Shape, plain, ending, opening, closing, turning, dropping, choosing, never, testing_null, asserting_non_null, branching_on_null, branching_on_non_null, branching_by_table, setting, giving_back, measuring, comparing, converting, catching, delegating, rethrowing, shape_of}
-use Rattle.wasm_operator_arity.specs.Asked.{Asked}
+use Rattle.wasm_operator_steps.specs.Actions.{Signed, of_type, of_function, of_tag, OperandTypes, these, params, results, label, returned, fields, repeated, front, last, taken_by, given_by, joined, before, behind}
+use Rattle.wasm_operator_steps.specs.Shapes.{Shape, plain, ending, opening, closing, turning, dropping, choosing, never, testing_null, asserting_non_null, branching_on_null, branching_on_non_null, branching_by_table, setting, giving_back, measuring, comparing, converting, describing, catching, delegating, rethrowing, one, nullable_to, takes_of as takes_of_continuation, shape_of}
+use Rattle.wasm_operator_steps.specs.WasmSpecRules.Signatures.{signature_of}
+use Rattle.wasm_operator_steps.specs.Meanings.{cont_of, defined_in}
+use Rattle.wasm_operator_arity.specs.Asked.{Asked, type_of_id}
 
 -- words on numbers that may not be there
 abbrev pub plus : Option ℕ → Option ℕ → Option ℕ
@@ -37,6 +39,10 @@ func_counts _ = None
 abbrev pub field_count : {R : Type 0} → Comp R → Option ℕ
 field_count (struct xs) = Some (length xs)
 field_count _ = None
+
+-- what is left of the second number without the first, where that is no greater
+abbrev pub at_least : ℕ → ℕ → Option ℕ
+at_least k n = if nat_lt n k then None else Some (n - k)
 
 -- one number, or none where the label has no types
 abbrev pub one_of : ℕ → Option ℕ
@@ -65,6 +71,35 @@ module _ (M : Asked) where
   abbrev pub innermost_counts : Option (ℕ × ℕ)
   innermost_counts = option_and_then (λ x. block_counts x.0) (slice_get M.frames 0)
 
+  -- the type that the last of some types refers to: that of a type index, and that of the last parameter of a continuation
+  abbrev pub named_by : Heap ℕ → Option (Sub UnpackedIndex)
+  named_by (abstract_heap s k) = None
+  named_by (concrete n) = M.types n
+  named_by (exact n) = M.types n
+
+  abbrev pub referred_by : Option (Val UnpackedIndex) → Option (Sub UnpackedIndex)
+  referred_by (Some (reference r)) = option_and_then (type_of_id M) (defined_in r.heap)
+  referred_by _ = None
+
+  abbrev pub function_behind : Option (Sub UnpackedIndex) → Option (Sub UnpackedIndex)
+  function_behind None = None
+  function_behind (Some d) = option_and_then (type_of_id M) (cont_of d.comp)
+
+  abbrev pub last_type : OperandTypes → Option (Sub UnpackedIndex)
+  last_type (these (reference r ∷ [])) = named_by r.heap
+  last_type (taken_by t) = option_and_then (λ d. referred_by (option_and_then (λ g. last_of g.takes) (signature_of d.comp))) (function_behind (last_type t))
+  last_type _ = None
+
+  -- what a continuation takes and gives that the last of some types refers to
+  abbrev pub counts_by : OperandTypes → Option (ℕ × ℕ)
+  counts_by t = option_and_then (λ d. func_counts d.comp) (function_behind (last_type t))
+
+  abbrev pub continued_counts : ℕ → Option (ℕ × ℕ)
+  continued_counts n = counts_by (one (nullable_to n))
+
+  abbrev pub switched_counts : ℕ → Option (ℕ × ℕ)
+  switched_counts n = counts_by (takes_of_continuation n)
+
   -- How many types a list has that is named so. What is named by one local, global, function, table, memory, segment, field or
   -- element is one type.
   abbrev pub how_many : OperandTypes → Option ℕ
@@ -77,6 +112,10 @@ module _ (M : Asked) where
   how_many (repeated n t) = option_map (λ k. n * k) (how_many t)
   how_many (front t) = option_map (λ k. k - 1) (how_many t)
   how_many (last t) = option_and_then one_of (how_many t)
+  how_many (taken_by t) = takes_of (counts_by t)
+  how_many (given_by t) = gives_of (counts_by t)
+  how_many (before t u) = option_and_then (λ k. option_and_then (at_least k) (how_many t)) (how_many u)
+  how_many (behind t u) = how_many u
   how_many (joined t u) = plus (how_many t) (how_many u)
   how_many _ = Some 1
 
@@ -101,6 +140,7 @@ module _ (M : Asked) where
   arity (measuring cs k t) = pair (Some 1) (how_many t)
   arity (comparing cs t) = pair (Some 2) (how_many t)
   arity (converting cs j k) = Some (1, 1)
+  arity (describing cs n) = Some (1, 1)
   arity (catching cs t k) = pair (gives_of innermost_counts) (how_many t)
   arity (delegating cs l) = pair (gives_of innermost_counts) (gives_of innermost_counts)
   arity (rethrowing cs l) = Some (0, 0)

@@ -2,3 +2,5 @@ pub mod Asked
 pub mod Arities
 pub mod Sizes
 pub mod Lengths
+pub mod AccessCounts
+pub mod Refused

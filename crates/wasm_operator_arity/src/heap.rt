@@ -64,13 +64,24 @@ pub(crate) fn cast_arity<M: ModuleArity>(op: &CastOperator, resources: &M) -> Op
 {
     match *op {
         CastOperator::RefTestNonNull { .. }
+        | CastOperator::RefGetDesc { .. }
         | CastOperator::RefTestNullable { .. }
         | CastOperator::RefCastNonNull { .. }
         | CastOperator::RefCastNullable { .. } => Some((1, 1)),
+        CastOperator::RefCastDescEqNonNull { .. } | CastOperator::RefCastDescEqNullable { .. } => {
+            Some((2, 1))
+        }
         CastOperator::BrOnCast { relative_depth, .. }
         | CastOperator::BrOnCastFail { relative_depth, .. } => {
             match kept_count(resources, relative_depth) {
                 Some(count) => Some((count, count)),
+                None => None,
+            }
+        }
+        CastOperator::BrOnCastDescEq { relative_depth, .. }
+        | CastOperator::BrOnCastDescEqFail { relative_depth, .. } => {
+            match kept_count(resources, relative_depth) {
+                Some(count) => Some((count + 1, count)),
                 None => None,
             }
         }

@@ -4,16 +4,18 @@ ghost use Rattle.std.specs.Prelude.{◌≡◌};
 ghost use Rattle.std.specs.Option.{option_and_then};
 ghost use Rattle.wasm_operator_arity.specs.Arities.{arity, in_u32, operator_shape};
 
+use crate::continuations::continuation_arity;
 use crate::control::{call_arity, control_arity, parametric_arity};
-use crate::forms::form_counts;
+use crate::forms::{access_counts, form_counts};
 use crate::heap::{array_arity, cast_arity, conversion_arity, reference_arity, struct_arity};
 use crate::legacy::legacy_arity;
 use crate::module::ModuleArity;
 use crate::values::{
     access_arity, memory_arity, numeric_arity, saturating_arity, table_arity, variable_arity,
+    wide_arity,
 };
 use wasm_operators::Operator;
-use wasm_operators::operators_atomic::{atomic_form, vector_form};
+use wasm_operators::operators_atomic::{atomic_form, shared_form, vector_form};
 
 /// How many operands an operator takes and gives, whatever the counts.
 #[tactic(auto, using(crate::proofs::FormCounts::counted))]
@@ -39,6 +41,9 @@ fn counts_of<M: ModuleArity>(op: &Operator, resources: &M) -> Option<(u128, u128
         Operator::Array(op) => Some(array_arity(op)),
         Operator::Vector(op, values) => Some(form_counts(vector_form(*op), *values)),
         Operator::Atomic(op, values) => Some(form_counts(atomic_form(*op), *values)),
+        Operator::Wide(op) => Some(wide_arity(*op)),
+        Operator::Continuation(op) => continuation_arity(op, resources),
+        Operator::Shared(op, _) => Some(access_counts(shared_form(*op))),
     }
 }
 

@@ -2,7 +2,7 @@
 //! index tells.
 
 ghost use Rattle.std.specs.Prelude.{◌≡◌, Some};
-ghost use Rattle.wasm_operator_steps.specs.Shapes.{variable_shape, table_shape, access_shape, memory_shape, computing};
+ghost use Rattle.wasm_operator_steps.specs.Shapes.{variable_shape, table_shape, access_shape, memory_shape, computing, wide_shape};
 ghost use Rattle.wasm_operator_arity.specs.Arities.{arity};
 ghost use Rattle.wasm_operator_arity.specs.Asked.{Asked};
 ghost use Rattle.wasm_operators.specs.WasmOperatorsPlain.Signatures.{signature_of, saturating_signature_of};
@@ -10,7 +10,7 @@ ghost use Rattle.wasm_operators.specs.WasmOperatorsPlain.Signatures.{signature_o
 use wasm_operators::operators_plain::{Signature, numeric_signature, saturating_signature};
 use wasm_operators::{
     BulkMemoryOperator, MemArg, MemoryOperator, NumericOperator, SaturatingOperator, TableOperator,
-    VariableOperator,
+    VariableOperator, WideOperator,
 };
 
 /// How many operands an operator on a local or a global takes and gives.
@@ -82,6 +82,7 @@ pub(crate) fn memory_arity(op: &BulkMemoryOperator) -> (u128, u128)
         | BulkMemoryOperator::MemoryCopy { .. }
         | BulkMemoryOperator::MemoryInit { .. } => (3, 0),
         BulkMemoryOperator::DataDrop { .. } => (0, 0),
+        BulkMemoryOperator::MemoryDiscard { .. } => (2, 0),
     }
 }
 
@@ -107,4 +108,14 @@ pub(crate) fn saturating_arity(op: SaturatingOperator) -> (u128, u128)
     ensures { (M : Asked) → Some result ≡ arity M (computing (saturating_signature_of op)) }
 {
     signature_arity(saturating_signature(op))
+}
+
+/// How many operands an operator on integers of 128 bits takes and gives.
+pub(crate) fn wide_arity(op: WideOperator) -> (u128, u128)
+    ensures { (M : Asked) → Some result ≡ arity M (wide_shape op) }
+{
+    match op {
+        WideOperator::I64Add128 | WideOperator::I64Sub128 => (4, 2),
+        WideOperator::I64MulWideS | WideOperator::I64MulWideU => (2, 2),
+    }
 }

@@ -2,4 +2,5 @@ pub mod Topping
 pub mod Converting
 pub mod Sending
 pub mod Casting
+pub mod Describing
 pub mod Cited

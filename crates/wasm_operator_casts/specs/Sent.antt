@@ -1,5 +1,5 @@
 -- What branches on casts check, and what they send.
-use Rattle.std.specs.Prelude.{◌≡◌, ℕ, true, List, [], ◌∷◌, ◌++◌, Option, Some, Result, Ok, Err}
+use Rattle.std.specs.Prelude.{◌≡◌, ℕ, true, List, [], ◌∷◌, ◌++◌, Option, Some, None, Result, Ok, Err}
 use Rattle.wasm_operator_references.specs.WasmSpec.Syntax.{Ref, Val, reference}
 use Rattle.wasm_operator_references.specs.WasmSpec.MatchingTests.{World, matches_val}
 use Rattle.wasm_operator_references.specs.WasmSpecRules.Contexts.{Context}
@@ -11,16 +11,23 @@ use Rattle.wasm_operator_references.specs.WasmSpecRules.Attempts.{◌>>=◌, gua
 use Rattle.wasm_operator_references.specs.WasmOperatorChecks.WasmOperatorSteps.Machine.{State}
 use Rattle.wasm_operator_references.specs.WasmSpecRules.Signatures.{resolve_ref}
 use Rattle.wasm_operator_references.specs.WasmOperatorChecks.WasmOperatorStacks.Seen.{state_of}
+use Rattle.wasm_operator_references.specs.WasmOperatorChecks.WasmOperatorStacks.SeenTypeWords.{val_in}
+use Rattle.wasm_operator_references.specs.WasmOperatorChecks.WasmOperatorStacks.declared.type_word.TypeWord.{TypeWord}
 use Rattle.wasm_operator_references.specs.WasmOperatorChecks.WasmOperatorStacks.declared.stacks.Stacks.{Stacks}
 use Rattle.wasm_operator_references.specs.WasmOperatorChecks.Steps.{Took, acted, held}
 use Rattle.wasm_operator_references.specs.WasmOperatorChecks.SeenTypes.{exchanged}
 use Rattle.wasm_operator_references.specs.WasmOperatorChecks.declared.faults.OperatorFault.{OperatorFault}
 use Rattle.wasm_operator_references.specs.WasmOperatorChecks.declared.faults.OperatorError.TheVariants.{Refused}
 
--- Where a label takes these types, the last of which a type matches that is sent: the others taken with one on top, and given with
--- another on top.
-unfoldable pub sending : World UnpackedIndex → Option (List (Val UnpackedIndex)) → Val UnpackedIndex → Val UnpackedIndex → Val UnpackedIndex → State UnpackedIndex → Option (State UnpackedIndex)
-sending W o sent takes gives s = o >>= λ vs. last_of vs >>= λ w. guard (matches_val W sent w) s >>= exchanged W (front_of vs ++ takes ∷ []) (front_of vs ++ gives ∷ [])
+-- a type that is asked for, or none
+abbrev pub list_in : Option TypeWord → List (Val UnpackedIndex)
+list_in None = []
+list_in (Some t) = val_in t ∷ []
+
+-- Where a label takes these types, the last of which a type matches that is sent: the others taken with one above them and these on top,
+-- and given with another on top.
+unfoldable pub sending : World UnpackedIndex → Option (List (Val UnpackedIndex)) → Val UnpackedIndex → Val UnpackedIndex → List (Val UnpackedIndex) → Val UnpackedIndex → State UnpackedIndex → Option (State UnpackedIndex)
+sending W o sent takes above gives s = o >>= λ vs. last_of vs >>= λ w. guard (matches_val W sent w) s >>= exchanged W (front_of vs ++ takes ∷ above) (front_of vs ++ gives ∷ [])
 
 -- two written types, allowed, and the one may be cast to the other; with identities they are these
 pub record IsCastable {A : Type 0} (v : Stacks A) (C : Context UnpackedIndex) (r q : Ref ℕ) (a b : Ref UnpackedIndex) : Type 0 where

@@ -97,7 +97,7 @@ fn mismatched<A: Allocator, T: WasmModuleResources>(
 
 /// The two types of a branch on a cast with identities, where the one may be cast to the other.
 #[tactic(auto, using(crate::proofs::Cited::acts, crate::proofs::Casting::castables))]
-fn cast_types<A: Allocator, T: WasmModuleResources>(
+pub(crate) fn cast_types<A: Allocator, T: WasmModuleResources>(
     stacks: &Stacks<A>,
     resources: &T,
     from: RefType,
@@ -134,7 +134,7 @@ fn cast_types<A: Allocator, T: WasmModuleResources>(
 }
 
 /// A reference type as it is after a cast to another failed: without null, where the other has it.
-fn difference(from: RefType, to: RefType) -> RefType
+pub(crate) fn difference(from: RefType, to: RefType) -> RefType
     ensures { ref_of result ≡ record {
       nullable = if (ref_of to).nullable then false else (ref_of from).nullable;
       heap = (ref_of from).heap;
@@ -170,7 +170,10 @@ pub fn br_on_cast<A: Allocator, T: WasmModuleResources>(
     ensures same { Kept stacks.old stacks.new }
 {
     match cast_types(stacks, resources, from, to) {
-        Ok((from, to)) => send(stacks, resources, depth, to, from, difference(from, to)),
+        Ok((from, to)) => {
+            let left = difference(from, to);
+            send(stacks, resources, depth, to, from, None, left)
+        }
         Err(fault) => Err(OperatorError::Refused(fault)),
     }
 }
@@ -198,7 +201,10 @@ pub fn br_on_cast_fail<A: Allocator, T: WasmModuleResources>(
     ensures same { Kept stacks.old stacks.new }
 {
     match cast_types(stacks, resources, from, to) {
-        Ok((from, to)) => send(stacks, resources, depth, difference(from, to), from, to),
+        Ok((from, to)) => {
+            let sent = difference(from, to);
+            send(stacks, resources, depth, sent, from, None, to)
+        }
         Err(fault) => Err(OperatorError::Refused(fault)),
     }
 }

@@ -9,7 +9,7 @@ ghost use Rattle.wasm_operator_references.specs.WasmOperatorChecks.WasmValidator
 ghost use Rattle.wasm_operator_references.specs.WasmOperatorChecks.WasmOperatorStacks.Seen.{Kept};
 ghost use Rattle.wasm_operator_references.specs.WasmOperatorChecks.Steps.{Turns, typed};
 ghost use Rattle.wasm_operator_references.specs.WasmOperatorChecks.SeenTypes.{exchanged, types_seen};
-ghost use Rattle.wasm_operator_casts.specs.Sent.{sending};
+ghost use Rattle.wasm_operator_casts.specs.Sent.{sending, list_in};
 
 use std::alloc::Allocator;
 use wasm_operator_references::operator_checks::{
@@ -21,22 +21,32 @@ use wasm_operator_references::readers_types::{RefType, ValType};
 use wasm_operator_references::validator_resources::WasmModuleResources;
 use wasm_operator_references::{exchange_with, front_types, last_type};
 
-/// Takes operands of some types with one of another type on top, and gives the same types with one
-/// of a third type on top. Where that can't be, all stays.
+/// Takes operands of some types with one of another type above them, and with a descriptor on top
+/// where one is asked for, and gives the same types with one of a third type on top. Where that
+/// can't be, all stays.
 #[tactic(auto, using(crate::proofs::Cited::acts, crate::proofs::Cited::with_one))]
 fn exchange_top<'a, A: Allocator, T: WasmModuleResources>(
     stacks: &mut Stacks<A>,
     resources: &T,
     types: ValTypes<'a>,
     takes: TypeWord,
+    descriptor: Option<TypeWord>,
     gives: TypeWord,
 ) -> Result<(), OperatorError>
     ensures took { Turns result (exchanged (world (T.context resources.now))
-        (types_seen types.entry ++ val_in takes ∷ []) (types_seen types.entry ++ val_in gives ∷ []))
+        (types_seen types.entry ++ val_in takes ∷ list_in descriptor)
+        (types_seen types.entry ++ val_in gives ∷ []))
         stacks.old stacks.new }
     ensures same { Kept stacks.old stacks.new }
 {
-    let first = match check_type(stacks, resources, 0, takes) {
+    let above = match descriptor {
+        Some(descriptor) => match check_type(stacks, resources, 0, descriptor) {
+            Ok(above) => above,
+            Err(fault) => return Err(OperatorError::Refused(fault)),
+        },
+        None => 0,
+    };
+    let first = match check_type(stacks, resources, above, takes) {
         Ok(first) => first,
         Err(fault) => return Err(OperatorError::Refused(fault)),
     };
@@ -51,8 +61,8 @@ fn exchange_top<'a, A: Allocator, T: WasmModuleResources>(
 }
 
 /// Branches to a label whose last type matches what is sent: takes the label's other types with one
-/// of a type on top, and gives them with one of another type on top. Where that can't be, all
-/// stays.
+/// of a type above them, and with a descriptor on top where one is asked for, and gives them with
+/// one of another type on top. Where that can't be, all stays.
 #[tactic(auto, using(crate::proofs::Cited::acts, crate::proofs::Sending::sends))]
 pub(crate) fn send<A: Allocator, T: WasmModuleResources>(
     stacks: &mut Stacks<A>,
@@ -60,11 +70,13 @@ pub(crate) fn send<A: Allocator, T: WasmModuleResources>(
     depth: u32,
     sent: RefType,
     takes: RefType,
+    descriptor: Option<TypeWord>,
     gives: RefType,
 ) -> Result<(), OperatorError>
     ensures took { Turns result (sending (world (T.context resources.now))
         (typed stacks.old (T.context resources.now) (label depth)) (reference (ref_of sent))
-        (reference (ref_of takes)) (reference (ref_of gives))) stacks.old stacks.new }
+        (reference (ref_of takes)) (list_in descriptor) (reference (ref_of gives)))
+        stacks.old stacks.new }
     ensures same { Kept stacks.old stacks.new }
 {
     let types = match label_types(stacks, resources, depth) {
@@ -90,6 +102,7 @@ pub(crate) fn send<A: Allocator, T: WasmModuleResources>(
         resources,
         front_types(types),
         TypeWord::reference(takes),
+        descriptor,
         TypeWord::reference(gives),
     )
 }

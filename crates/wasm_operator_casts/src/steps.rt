@@ -13,6 +13,9 @@ use crate::casts::{ref_cast, ref_test};
 use crate::conversions::{
     any_convert_extern, extern_convert_any, i31_get, ref_i31, ref_i31_shared,
 };
+use crate::descriptors::{
+    br_on_cast_desc_eq, br_on_cast_desc_eq_fail, ref_cast_desc_eq, ref_get_desc,
+};
 use std::alloc::Allocator;
 use wasm_operator_references::operator_checks::OperatorError;
 use wasm_operator_references::operator_stacks::Stacks;
@@ -41,6 +44,13 @@ pub fn step_cast<A: Allocator, T: WasmModuleResources>(
         CastOperator::RefTestNullable { hty } => ref_test(stacks, resources, true, hty),
         CastOperator::RefCastNonNull { hty } => ref_cast(stacks, resources, false, hty),
         CastOperator::RefCastNullable { hty } => ref_cast(stacks, resources, true, hty),
+        CastOperator::RefGetDesc { type_index } => ref_get_desc(stacks, resources, type_index),
+        CastOperator::RefCastDescEqNonNull { hty } => {
+            ref_cast_desc_eq(stacks, resources, false, hty)
+        }
+        CastOperator::RefCastDescEqNullable { hty } => {
+            ref_cast_desc_eq(stacks, resources, true, hty)
+        }
         CastOperator::BrOnCast {
             relative_depth,
             from_ref_type,
@@ -57,6 +67,28 @@ pub fn step_cast<A: Allocator, T: WasmModuleResources>(
             from_ref_type,
             to_ref_type,
         } => br_on_cast_fail(
+            stacks,
+            resources,
+            relative_depth,
+            from_ref_type,
+            to_ref_type,
+        ),
+        CastOperator::BrOnCastDescEq {
+            relative_depth,
+            from_ref_type,
+            to_ref_type,
+        } => br_on_cast_desc_eq(
+            stacks,
+            resources,
+            relative_depth,
+            from_ref_type,
+            to_ref_type,
+        ),
+        CastOperator::BrOnCastDescEqFail {
+            relative_depth,
+            from_ref_type,
+            to_ref_type,
+        } => br_on_cast_desc_eq_fail(
             stacks,
             resources,
             relative_depth,

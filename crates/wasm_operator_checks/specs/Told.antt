@@ -10,8 +10,8 @@ use Rattle.wasm_validator_resources.specs.WasmReadersErrors.declared.error.Fault
 use Rattle.wasm_validator_resources.specs.WasmReadersErrors.declared.error.Fault.TheVariants as fault
 use Rattle.wasm_validator_resources.specs.WasmReadersErrors.declared.error.Refusal.{Refusal}
 use Rattle.wasm_validator_resources.specs.WasmReadersErrors.Lifting.{lifting}
-use Rattle.wasm_validator_resources.specs.WasmReadersErrors.declared.operator_rules.OperatorRule.{OperatorRule}
-use Rattle.wasm_validator_resources.specs.WasmReadersErrors.declared.operator_rules.OperatorRule.TheVariants as rule
+use Rattle.wasm_validator_resources.specs.WasmReadersErrors.WasmReadersFeatures.declared.operator_rules.OperatorRule.{OperatorRule}
+use Rattle.wasm_validator_resources.specs.WasmReadersErrors.WasmReadersFeatures.declared.operator_rules.OperatorRule.TheVariants as rule
 use Rattle.wasm_operator_stacks.specs.SeenTypeWords.{val_in}
 use Rattle.wasm_operator_stacks.specs.WasmOperatorSteps.Machine as machine
 use Rattle.wasm_operator_stacks.specs.WasmOperatorSteps.Machine.{known}

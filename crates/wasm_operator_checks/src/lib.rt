@@ -37,3 +37,10 @@ pub mod operator_stacks {
         Block, BlockWord, Frame, LocalWord, Locals, MAX_LOCALS, Operand, Stacks, TypeWord, Word,
     };
 }
+
+/// Passed on from `wasm_operator_stacks`.
+pub mod operator_steps {
+    pub use wasm_operator_stacks::{
+        Access, AccessValues, SharedAtomicOperator, SharedForm, shared_code, shared_form,
+    };
+}

@@ -40,7 +40,7 @@ pub use tails::{return_call, return_call_indirect, return_call_ref};
 pub mod operator_numbers {
     pub use wasm_operator_numbers::{
         access_memory, allows_number, bulk_memory, compute, constant, step_atomic, step_table,
-        step_vector,
+        step_vector, step_wide,
     };
 }
 
@@ -60,14 +60,17 @@ pub mod validator_resources {
 pub mod operator_checks {
     pub use wasm_operator_numbers::operator_checks::{
         OperatorError, OperatorFault, OperatorRule, Takes, ValTypes, address, check_type,
-        check_types, exchange_types, halt, has, has_known, look, look_many, match_all, matches,
-        plain, reaches,
+        check_types, exact_or_null, exchange_types, halt, has, has_known, identity, look,
+        look_many, match_all, matches, nullable, plain, plain_with, reaches,
     };
 }
 
 /// Passed on from `wasm_readers_types`.
 pub mod readers_types {
-    pub use wasm_readers_types::{AbstractHeapType, HeapType, RefType, UnpackedIndex, ValType};
+    pub use wasm_readers_types::{
+        AbstractHeapType, CompositeInnerType, FuncType, HeapType, PackedIndex, RefType, SubType,
+        UnpackedIndex, ValType,
+    };
 }
 
 /// Passed on from `wasm_readers_errors`.
@@ -78,6 +81,7 @@ pub mod readers_errors {
 /// Passed on from `wasm_operators`.
 pub mod operators {
     pub use wasm_operator_numbers::operators::{
-        CastOperator, ConversionOperator, ReferenceOperator, operators_plain,
+        CastOperator, ContinuationOperator, ConversionOperator, Handle, Listed, ReferenceOperator,
+        ResumeTable, operators_plain,
     };
 }

@@ -21,6 +21,7 @@ pub use wasm_operator_control::NotTaken;
 pub mod operator_numbers {
     pub use wasm_operator_control::operator_numbers::{
         access_memory, bulk_memory, compute, constant, step_atomic, step_table, step_vector,
+        step_wide,
     };
 }
 

@@ -3,3 +3,4 @@ pub use Rattle.wasm_operator_checks.proofs as WasmOperatorChecks
 pub mod Comparing
 pub mod Formed
 pub mod Tabled
+pub mod WideTypes

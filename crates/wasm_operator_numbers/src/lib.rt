@@ -10,6 +10,7 @@ mod numbers;
 mod reach;
 mod step;
 mod tables;
+mod wide;
 
 pub use accesses::access_memory;
 pub use allowed::allows_number;
@@ -20,6 +21,7 @@ pub use numbers::{compute, constant};
 pub use reach::table_reached;
 pub use step::step_table;
 pub use tables::{table_fill, table_get, table_grow, table_set, table_size};
+pub use wide::step_wide;
 
 /// Passed on from `wasm_operator_stacks`.
 pub mod operator_stacks {
@@ -32,8 +34,8 @@ pub mod operator_stacks {
 pub mod operator_checks {
     pub use wasm_operator_checks::{
         OperatorError, OperatorFault, OperatorRule, Takes, ValTypes, address, check_type,
-        check_types, exchange_types, halt, has, has_known, look, look_many, match_all, matches,
-        plain, plain_with, reaches,
+        check_types, exact_or_null, exchange_types, halt, has, has_known, identity, look,
+        look_many, match_all, matches, nullable, plain, plain_with, reaches,
     };
 }
 
@@ -55,6 +57,7 @@ pub mod operators_plain {
 /// Passed on from `wasm_operators`.
 pub mod operators {
     pub use wasm_operators::{
-        CastOperator, ConversionOperator, FrameKind, ReferenceOperator, operators_plain,
+        CastOperator, ContinuationOperator, ConversionOperator, FrameKind, Handle, Listed,
+        ReferenceOperator, ResumeTable, operators_plain,
     };
 }

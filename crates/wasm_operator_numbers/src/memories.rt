@@ -1,7 +1,7 @@
 //! Operators on memories, loads and stores aside.
 
 ghost use Rattle.std.specs.Prelude.{◌≡◌, ◌&&◌, nat_lt};
-ghost use Rattle.wasm_operators.specs.WasmOperatorsPlain.declared.memories.BulkMemoryOperator.TheVariants.{MemorySize, MemoryGrow, MemoryFill, MemoryCopy, MemoryInit, DataDrop};
+ghost use Rattle.wasm_operators.specs.WasmOperatorsPlain.declared.memories.BulkMemoryOperator.TheVariants.{MemorySize, MemoryGrow, MemoryFill, MemoryCopy, MemoryInit, DataDrop, MemoryDiscard};
 ghost use Rattle.wasm_readers_types.specs.WasmReadersValues.declared.indices.UnpackedIndex.{UnpackedIndex};
 ghost use Rattle.wasm_operator_checks.specs.WasmOperatorStacks.SeenTypeWords.{val_in};
 ghost use Rattle.wasm_operator_checks.specs.WasmSpecRules.Attempts.{passes};
@@ -201,6 +201,34 @@ fn memory_copy<A: Allocator, T: WasmModuleResources>(
     )
 }
 
+/// `memory.discard`.
+#[tactic(auto, using(wasm_operator_checks::proofs::Acting::acts, wasm_operator_checks::proofs::Typing::memories, wasm_operator_checks::proofs::Typing::types))]
+fn memory_discard<A: Allocator, T: WasmModuleResources>(
+    stacks: &mut Stacks<A>,
+    resources: &T,
+    mem: u32,
+) -> Result<(), OperatorError>
+    ensures took { Performs result (T.context resources.now) (memory_shape (MemoryDiscard mem))
+        stacks.old stacks.new }
+    ensures same { Kept stacks.old stacks.new }
+{
+    if !has(stacks, WasmFeatures::MEMORY_CONTROL) {
+        Err(OperatorFault::at(OperatorRule::OpcodeBehind(0xfc), 18))?;
+    }
+    match resources.memory_at(mem) {
+        Some(memory) => {
+            let address = address(memory.memory64);
+            plain(
+                stacks,
+                resources,
+                Takes::Two(address, address),
+                ValTypes::None,
+            )
+        },
+        None => Err(OperatorError::Refused(OperatorFault::at(OperatorRule::UnknownMemory, mem))),
+    }
+}
+
 /// An operator on memories.
 pub fn bulk_memory<A: Allocator, T: WasmModuleResources>(
     stacks: &mut Stacks<A>,
@@ -222,5 +250,6 @@ pub fn bulk_memory<A: Allocator, T: WasmModuleResources>(
             stacks, resources, dst_mem, src_mem,
         ),
         BulkMemoryOperator::MemoryFill { mem } => memory_fill(stacks, resources, mem),
+        BulkMemoryOperator::MemoryDiscard { mem } => memory_discard(stacks, resources, mem),
     }
 }

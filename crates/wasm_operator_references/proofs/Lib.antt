@@ -5,4 +5,6 @@ pub mod Functional
 pub mod Giving
 pub mod Comparable
 pub mod Branching
+pub mod Continuing
+pub mod Handling
 pub mod Cited

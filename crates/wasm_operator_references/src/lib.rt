@@ -1,17 +1,23 @@
-//! Operators on references: null, functions, comparison, and branches on null.
+//! Operators on references: null, functions, comparison, and branches on null; and operators on
+//! continuations.
 #![tactic(auto)]
 
 mod branches;
 mod comparing;
+mod continuations;
+mod continued;
 mod functions;
 mod given;
+mod handlers;
 mod nulls;
 mod referenced;
+mod resuming;
 mod steps;
 mod written;
 
 pub use branches::{br_on_non_null, br_on_null};
 pub use comparing::{look_below, matches_abstract, ref_eq};
+pub use continuations::step_continuation;
 pub use functions::ref_func;
 pub use given::{exchange_with, front_types, last_type};
 pub use nulls::{ref_as_non_null, ref_is_null, ref_null};
@@ -37,15 +43,15 @@ pub mod validator_resources {
 /// Passed on from `wasm_operator_checks`.
 pub mod operator_checks {
     pub use wasm_operator_control::operator_checks::{
-        OperatorError, OperatorFault, OperatorRule, Takes, ValTypes, check_type, check_types, has,
-        plain,
+        OperatorError, OperatorFault, OperatorRule, Takes, ValTypes, check_type, check_types,
+        exact_or_null, has, identity, nullable, plain, reaches,
     };
 }
 
 /// Passed on from `wasm_readers_types`.
 pub mod readers_types {
     pub use wasm_operator_control::readers_types::{
-        AbstractHeapType, HeapType, RefType, UnpackedIndex, ValType,
+        AbstractHeapType, HeapType, PackedIndex, RefType, UnpackedIndex, ValType,
     };
 }
 
@@ -56,5 +62,7 @@ pub mod readers_errors {
 
 /// Passed on from `wasm_operators`.
 pub mod operators {
-    pub use wasm_operator_control::operators::{CastOperator, ConversionOperator, operators_plain};
+    pub use wasm_operator_control::operators::{
+        CastOperator, ConversionOperator, ReferenceOperator, operators_plain,
+    };
 }

@@ -25,6 +25,10 @@ pub use stack::Stack;
 pub use stacks::{Frame, Stacks};
 pub use type_word::TypeWord;
 pub use word::{Operand, Word};
+// What atomic accesses reach and do, for the crates that stand on this one.
+pub use wasm_operator_steps::{
+    Access, AccessValues, SharedAtomicOperator, SharedForm, shared_code, shared_form,
+};
 
 /// Passed on from `wasm_operators_plain`.
 pub mod operators_plain {

@@ -303,6 +303,9 @@ module _ {R : Type 0} (W : World R) (B : Surroundings R) where
   gives_one (instruction.cast op) g = absurd (not_both g)
   gives_one (instruction.vector op values) g = absurd (not_both g)
   gives_one (instruction.atomic op values) g = absurd (not_both g)
+  gives_one (instruction.wide op) g = absurd (not_both g)
+  gives_one (instruction.shared op values) g = absurd (not_both g)
+  gives_one (instruction.continuation op) g = absurd (not_both g)
 
   takes_none : (op : Instruction ℕ) → takes_no_reference op ≡ true → Keeps W B (shape_of op)
   takes_none (instruction.constant c) g = no_reference _ nothing (one _) takes_nothing (written _)
@@ -327,6 +330,9 @@ module _ {R : Type 0} (W : World R) (B : Surroundings R) where
   takes_none (instruction.cast op) g = absurd (not_both g)
   takes_none (instruction.vector op values) g = absurd (not_both g)
   takes_none (instruction.atomic op values) g = absurd (not_both g)
+  takes_none (instruction.wide op) g = absurd (not_both g)
+  takes_none (instruction.shared op values) g = absurd (not_both g)
+  takes_none (instruction.continuation op) g = absurd (not_both g)
 
 module _ {R : Type 0} (same : R → R → Bool) (B : Surroundings R) where
   step-runs : (op : Instruction ℕ) (s t : State R) → step same B op s ≡ Some t → run (world_of same B.context) B (actions_of (shape_of op)) s ≡ Some t

@@ -4,7 +4,7 @@ use Rattle.wasm_spec_rules.specs.WasmSpec.Syntax.{AbstractHeap, Heap, abstract_h
 use Rattle.wasm_spec_rules.specs.WasmSpec.Matching.{kind_of, bottom_of, top_of, top_of_heap, shared_flag, is_shared_heap}
 use Rattle.wasm_spec_rules.specs.WasmSpec.ValueTypes.{implies}
 use Rattle.wasm_spec_rules.specs.WasmSpec.MatchingTests.{World, same_flag, same_abstract, matches_abstract, matches_kind, is_above_bottom, matches_heap, matches_ref, matches_val}
-use Rattle.wasm_operator_steps.specs.Matching.{matches_vals, matches_storage}
+use Rattle.wasm_operator_steps.specs.Matching.{matches_vals, matches_some, match_some, matches_storage}
 use Rattle.wasm_operator_steps.specs.Renaming.{Renames}
 use Rattle.wasm_operator_steps.proofs.Attempts.{then-map}
 
@@ -62,6 +62,14 @@ module _ {R S : Type 0} (f : R → S) (W : World R) (V : World S) (h : Renames f
   matches_vals-map (v ∷ vs) (w ∷ ws) = λ i. matches_val-map v w i && matches_vals-map vs ws i
   matches_vals-map [] (w ∷ ws) = refl
   matches_vals-map (v ∷ vs) [] = refl
+
+  pub matches_some-map : (ws : List (Val R)) (v : Val R) → matches_some V (map (map_val f) ws) (map_val f v) ≡ matches_some W ws v
+  matches_some-map [] v = refl
+  matches_some-map (w ∷ ws) v = λ i. matches_val-map v w i || matches_some-map ws v i
+
+  pub match_some-map : (ws vs : List (Val R)) → match_some V (map (map_val f) ws) (map (map_val f) vs) ≡ match_some W ws vs
+  match_some-map ws [] = refl
+  match_some-map ws (v ∷ vs) = λ i. matches_some-map ws v i && match_some-map ws vs i
 
   pub matches_storage-map : (x y : Storage R) → matches_storage V (map_storage f x) (map_storage f y) ≡ matches_storage W x y
   matches_storage-map i8 i8 = refl

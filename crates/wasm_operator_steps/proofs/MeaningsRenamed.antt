@@ -9,15 +9,15 @@ use Rattle.wasm_spec_rules.specs.WasmSpec.MatchingTests.{same_flag, World, match
 use Rattle.wasm_operators.specs.Control.{Block, empty_block, value_block, func_block}
 use Rattle.wasm_operators.specs.Maps.{map_block}
 use Rattle.wasm_spec_rules.specs.Attempts.{◌>>=◌, guard, among, passes, last_of, front_of, list_of}
-use Rattle.wasm_operator_steps.specs.Matching.{matches_vals, matches_storage}
+use Rattle.wasm_operator_steps.specs.Matching.{matches_vals, match_some, matches_storage}
 use Rattle.wasm_operator_steps.specs.Bodies.{Surroundings, map_local, map_surroundings}
 use Rattle.wasm_operator_steps.specs.Machine.{Operand, bottom, bottom_reference, open_reference, known, Kind, block_kind, loop_kind, if_kind, else_kind, try_table_kind, legacy_try_kind, legacy_catch_kind, legacy_catch_all_kind, is_try, may_catch, has_caught, Frame, State, delegates, rethrows, map_operand, map_frame, map_state, map_popped, push_operand, push_vals, pop_any, pop_reference, same_number, chosen, become_unreachable, push_frame, set_local, pop_vals}
-use Rattle.wasm_operator_steps.specs.Actions.{Signed, of_type, of_function, of_tag, OperandTypes, these, params, results, label, returned, local, global, function_reference, new_reference, fields, element, field, table_address, memory_address, table_element, segment, lesser_table_address, lesser_memory_address, top, descriptor_of, repeated, front, last, joined, Check, has, allows, global_is_mutable, local_is_set, function_is_referenced, is_exception, each_matches, may_be_cast, can_be_tested, is_aligned, suits, fields_have_defaults, has_no_descriptor, field_is_mutable, field_is_packed, element_is_mutable, element_has_default, element_is_number, element_is_packed, element_is_storable, data_is_there, segment_is_there, reaches_global, reaches_table, reaches_type, reaches_function, Action, need, refuse, take, give, take_any, take_reference, take_comparable, make_non_null, choose, stop, turn_to_else, leave, take_below, convert, enter, turn_to_catch, find_outside, find_caught, set, branch_on_null, branch_to_one_of}
+use Rattle.wasm_operator_steps.specs.Actions.{Signed, of_type, of_function, of_tag, OperandTypes, these, params, results, label, returned, local, global, function_reference, new_reference, fields, element, field, table_address, memory_address, table_element, segment, lesser_table_address, lesser_memory_address, top, descriptor_of, descriptor_for, repeated, front, last, joined, Check, has, allows, global_is_mutable, local_is_set, function_is_referenced, is_exception, each_matches, each_matches_some, may_be_cast, can_be_tested, is_aligned, suits, fields_have_defaults, has_no_descriptor, field_is_mutable, field_is_packed, element_is_mutable, element_has_default, element_is_number, element_is_packed, element_is_storable, data_is_there, segment_is_there, reaches_global, reaches_table, reaches_type, reaches_function, Action, need, refuse, take, give, take_any, take_reference, take_comparable, make_non_null, choose, stop, turn_to_else, leave, take_below, convert, enter, turn_to_catch, find_outside, find_caught, set, branch_on_null, branch_to_one_of}
 use Rattle.wasm_spec_rules.specs.Signatures.{Signature, resolve_heap, resolve_ref, resolve_val, resolve_vals, signature_of}
-use Rattle.wasm_operator_steps.specs.Meanings.{ref_to, resolve_block, fields_of, element_of, unpack, unpack_field, is_packed, has_default, all_have_defaults, copies, one, is_of_continuations, address, both, label_by, sub_at, comp_at, type_signature, block_signature, frame_signature, label_at, returned_at, signature_at, fields_at, element_at, field_at, exact_if, function_heap, descriptor_at, top_heap, table_is_64, memory_is_64, types_at, casts, holds, is_below_either, agree, converted, pop_frame, may_end, leave_in, turn_in, catch_in, labels_fit, act, run}
+use Rattle.wasm_operator_steps.specs.Meanings.{ref_to, resolve_block, fields_of, element_of, unpack, unpack_field, is_packed, has_default, all_have_defaults, copies, one, is_of_continuations, address, both, label_by, sub_at, comp_at, type_signature, block_signature, frame_signature, label_at, returned_at, signature_at, fields_at, element_at, field_at, exact_if, function_heap, descriptor_at, descriptor_heap, top_heap, table_is_64, memory_is_64, types_at, casts, holds, is_below_either, agree, converted, pop_frame, may_end, leave_in, turn_in, catch_in, labels_fit, act, run}
 use Rattle.wasm_operator_steps.specs.Renaming.{Renames}
 use Rattle.wasm_operator_steps.proofs.Attempts.{bind-map, bind-same, then-map, passes-map, guard-map, is_some-map, last_of-map, front_of-map}
-use Rattle.wasm_operator_steps.proofs.MatchingRenamed.{matches_heap-map, matches_ref-map, matches_vals-map, matches_storage-map, is_shared_heap-map, top_of_heap-map}
+use Rattle.wasm_operator_steps.proofs.MatchingRenamed.{matches_heap-map, matches_ref-map, matches_vals-map, match_some-map, matches_storage-map, is_shared_heap-map, top_of_heap-map}
 use Rattle.wasm_operator_steps.proofs.MachineRenamed.{map_vals, push_vals-map, pop_any-map, pop_reference-map, non_null-map, same_number-map, chosen-map, become_unreachable-map, push_frame-map, set_local-map, pop_vals-map}
 
 module _ {R S : Type 0} (f : R → S) where
@@ -196,6 +196,11 @@ module _ {R S : Type 0} (f : R → S) (W : World R) (V : World S) (h : Renames f
   descriptor_at-map : (n : ℕ) → descriptor_at V N n ≡ option_map f (descriptor_at W B n)
   descriptor_at-map n = bind-map (map_sub f) f _ _ (λ d. refl) (sub_at W B n) (sub_at-map n)
 
+  descriptor_heap-map : (x : Heap ℕ) → descriptor_heap V N x ≡ option_map (map_heap f) (descriptor_heap W B x)
+  descriptor_heap-map (abstract_heap s k) = refl
+  descriptor_heap-map (concrete n) = then-map f (map_heap f) _ _ (λ a. refl) (descriptor_at W B n) (descriptor_at-map n)
+  descriptor_heap-map (exact n) = then-map f (map_heap f) _ _ (λ a. refl) (descriptor_at W B n) (descriptor_at-map n)
+
   top_heap-map : (x : Heap ℕ) → top_heap V N x ≡ option_map (map_heap f) (top_heap W B x)
   top_heap-map x =
       bind-map (map_heap f) (map_heap f) (top_of_heap W.declared) (top_of_heap V.declared) (top_of_heap-map f W V h) (resolve_heap B.context.types x) (resolve_heap-map f B.context.types x)
@@ -238,6 +243,7 @@ module _ {R S : Type 0} (f : R → S) (W : World R) (V : World S) (h : Renames f
   types_at-map s (lesser_memory_address m n) = addressed-map f (both (memory_is_64 W B m) (memory_is_64 W B n))
   types_at-map s (top r) = type_of-map (top_heap W B r.heap) true (top_heap-map r.heap)
   types_at-map s (descriptor_of n) = one-map f _ (then-map f (map_val f) _ _ (λ a. refl) (descriptor_at W B n) (descriptor_at-map n))
+  types_at-map s (descriptor_for x) = type_of-map (descriptor_heap W B x) true (descriptor_heap-map x)
   types_at-map s (repeated n t) = then-map (map_vals f) (map_vals f) _ _ (copies-map f n) (types_at W B s t) (types_at-map s t)
   types_at-map s (front t) = then-map (map_vals f) (map_vals f) front_of front_of (front_of-map (map_val f)) (types_at W B s t) (types_at-map s t)
   types_at-map s (last t) = one-map f _ (bind-map (map_vals f) (map_val f) last_of last_of (last_of-map (map_val f)) (types_at W B s t) (types_at-map s t))
@@ -261,6 +267,10 @@ module _ {R S : Type 0} (f : R → S) (W : World R) (V : World S) (h : Renames f
   holds-map s (each_matches t u) =
       passes-map (map_vals f) (λ vs. passes (matches_vals W vs) (types_at W B s u)) (λ vs. passes (matches_vals V vs) (types_at V N (map_state f s) u))
       (λ vs. passes-map (map_vals f) (matches_vals W vs) (matches_vals V (map_vals f vs)) (λ ws. matches_vals-map f W V h vs ws) (types_at W B s u) (types_at-map s u))
+      (types_at W B s t) (types_at-map s t)
+  holds-map s (each_matches_some t u) =
+      passes-map (map_vals f) (λ vs. passes (λ ws. match_some W ws vs) (types_at W B s u)) (λ vs. passes (λ ws. match_some V ws vs) (types_at V N (map_state f s) u))
+      (λ vs. passes-map (map_vals f) (λ ws. match_some W ws vs) (λ ws. match_some V ws (map_vals f vs)) (λ ws. match_some-map f W V h ws vs) (types_at W B s u) (types_at-map s u))
       (types_at W B s t) (types_at-map s t)
   holds-map s (may_be_cast r q) =
       passes-map (map_ref f) (λ a. passes (casts W B a) (resolve_ref B.context.types q)) (λ a. passes (casts V N a) (resolve_ref N.context.types q))

@@ -8,7 +8,7 @@ use Rattle.wasm_operators.specs.Instructions.{Instruction}
 use Rattle.wasm_spec_rules.specs.Attempts.{◌>>=◌, guard, last_of, front_of}
 use Rattle.wasm_operator_steps.specs.Bodies.{Surroundings}
 use Rattle.wasm_operator_steps.specs.Machine.{Operand, bottom, known, Frame, State, push_operand, pushed_onto, push_vals, popped, pop_any, matches_operand, pop_val, pop_vals}
-use Rattle.wasm_operator_steps.specs.Actions.{OperandTypes, these, params, results, label, returned, local, global, function_reference, new_reference, descriptor_of, fields, element, field, table_address, memory_address, table_element, segment, lesser_table_address, lesser_memory_address, top, repeated, front, last, joined, Action, take, give}
+use Rattle.wasm_operator_steps.specs.Actions.{OperandTypes, these, params, results, label, returned, local, global, function_reference, new_reference, descriptor_of, descriptor_for, fields, element, field, table_address, memory_address, table_element, segment, lesser_table_address, lesser_memory_address, top, repeated, front, last, joined, Action, take, give}
 use Rattle.wasm_operator_steps.specs.Shapes.{shape_of}
 use Rattle.wasm_operator_steps.specs.Meanings.{one, copies, label_by, frame_signature, types_at, act, run}
 use Rattle.wasm_operator_steps.specs.Steps.{actions_of, is_open, step_in, steps_in}
@@ -139,6 +139,7 @@ module _ {R : Type 0} (W : World R) (B : Surroundings R) where
   types_at-frames s r e (lesser_table_address m n) = refl
   types_at-frames s r e (lesser_memory_address m n) = refl
   types_at-frames s r e (top q) = refl
+  types_at-frames s r e (descriptor_for x) = refl
   types_at-frames s r e (repeated n t) = ap (option_map (copies n)) (types_at-frames s r e t)
   types_at-frames s r e (front t) = ap (option_map front_of) (types_at-frames s r e t)
   types_at-frames s r e (last t) = ap (λ (o : Option (List (Val R))). one (o >>= last_of)) (types_at-frames s r e t)

@@ -5,7 +5,7 @@ use Rattle.wasm_spec_rules.specs.WasmSpec.Syntax.{any_heap, eq_heap, i31_heap, n
 use Rattle.wasm_spec_rules.specs.WasmSpec.Features.{Features}
 use Rattle.wasm_spec_rules.specs.WasmSpec.TypeExamples.{features}
 use Rattle.wasm_operators.specs.Control.{empty_block, value_block}
-use Rattle.wasm_operators.specs.References.{ref_is_null, ref_eq, ref_as_non_null, ref_func, br_on_null, br_on_non_null, ref_test, ref_cast, br_on_cast, br_on_cast_fail}
+use Rattle.wasm_operators.specs.References.{ref_is_null, ref_eq, ref_as_non_null, ref_func, br_on_null, br_on_non_null, ref_test, ref_cast, br_on_cast, br_on_cast_fail, ref_cast_desc_eq}
 use Rattle.wasm_operators.specs.References as references
 use Rattle.wasm_operators.specs.Instructions.{Instruction, variable, table, access, memory, constant, reference, cast, conversion, structure, array}
 use Rattle.wasm_operators.specs.WasmOperatorsPlain.declared.variables.VariableOperator.TheVariants.{LocalGet, LocalSet}
@@ -241,6 +241,9 @@ Descriptors =
     all_pass (
     described (null (exact 12) ∷ structure (StructNewDesc 11) ∷ dropped ∷ []) ∷
     described (null (exact 12) ∷ structure (StructNewDefaultDesc 11) ∷ dropped ∷ []) ∷
+    described (null (plain_heap any_heap) ∷ null (concrete 12) ∷ cast (ref_cast_desc_eq (ref_of false (concrete 11))) ∷ dropped ∷ []) ∷
+    described (null (plain_heap any_heap) ∷ null (exact 12) ∷ cast (ref_cast_desc_eq (ref_of true (exact 11))) ∷ dropped ∷ []) ∷
+    described (null (plain_heap any_heap) ∷ null (exact 12) ∷ cast (ref_cast_desc_eq (ref_of true (concrete 11))) ∷ dropped ∷ []) ∷
     described (structure (StructNewDefault 5) ∷ cast (ref_cast (ref_of false (exact 5))) ∷ dropped ∷ []) ∷
     described (in_block (value_block (ref (concrete 7))) ∷ variable (LocalGet 0) ∷ cast (br_on_cast 0 (ref_of false (concrete 5)) (ref_of false (concrete 7))) ∷ trap ∷ an_end ∷ dropped ∷ []) ∷
     []) ≡ true
@@ -253,6 +256,11 @@ NoDescriptors =
     described (structure (StructNew 11) ∷ dropped ∷ []) ∷
     described (structure (StructNewDefault 11) ∷ dropped ∷ []) ∷
     described (null (exact 12) ∷ structure (StructNewDefaultDesc 5) ∷ dropped ∷ []) ∷
+    described (null (plain_heap any_heap) ∷ null (concrete 12) ∷ cast (ref_cast_desc_eq (ref_of false (exact 11))) ∷ dropped ∷ []) ∷
+    described (null (plain_heap any_heap) ∷ null (concrete 11) ∷ cast (ref_cast_desc_eq (ref_of false (concrete 11))) ∷ dropped ∷ []) ∷
+    described (null (plain_heap func_heap) ∷ null (concrete 12) ∷ cast (ref_cast_desc_eq (ref_of false (concrete 11))) ∷ dropped ∷ []) ∷
+    described (trap ∷ cast (ref_cast_desc_eq (ref_of false (concrete 5))) ∷ dropped ∷ []) ∷
+    described (trap ∷ cast (ref_cast_desc_eq (ref_of true (plain_heap any_heap))) ∷ dropped ∷ []) ∷
     described (in_block (value_block (ref (concrete 0))) ∷ variable (LocalGet 0) ∷ cast (br_on_cast 0 (ref_of false (concrete 5)) (ref_of false (concrete 0))) ∷ trap ∷ an_end ∷ dropped ∷ []) ∷
     []) ≡ true
 
@@ -316,4 +324,5 @@ AggregatesNeedFeatures =
     needs (record every { shared_everything_threads = false }) (an_i32 ∷ conversion RefI31Shared ∷ dropped ∷ []) ∷
     needs (record every { custom_descriptors = false }) (trap ∷ structure (StructNewDesc 11) ∷ dropped ∷ []) ∷
     needs (record every { custom_descriptors = false }) (trap ∷ structure (StructNewDefaultDesc 11) ∷ dropped ∷ []) ∷
+    needs (record every { descriptor_operators = false }) (trap ∷ cast (ref_cast_desc_eq (ref_of false (concrete 11))) ∷ dropped ∷ []) ∷
     []) ≡ true

@@ -2,7 +2,7 @@
 use Rattle.std.specs.Prelude.{◌≡◌, ◌≤◌, ◌<◌, ℕ, Bool, true, false, ◌&&◌, List, ◌++◌, length, Option, Some, None, is_some}
 use Rattle.std.specs.Bool.{Decides}
 use Rattle.std.specs.Option.{option_map}
-use Rattle.wasm_spec_rules.specs.WasmSpec.Syntax.{Sub}
+use Rattle.wasm_spec_rules.specs.WasmSpec.Syntax.{Ref, Sub}
 use Rattle.wasm_spec_rules.specs.WasmSpec.Declared.{ancestor_at, IsAncestor}
 use Rattle.wasm_spec_rules.specs.WasmSpec.CrateLimits.{most_clauses}
 use Rattle.wasm_spec_rules.specs.WasmSpec.MatchingTests.{World, IsWorld}
@@ -13,11 +13,17 @@ use Rattle.wasm_operators.specs.WasmOperatorsPlain.declared.numeric.NumericOpera
 use Rattle.wasm_operators.specs.Control.{Block, try_table}
 use Rattle.wasm_operators.specs.declared.control.Catch.{Catch}
 use Rattle.wasm_operators.specs.Maps.{map_block}
-use Rattle.wasm_operators.specs.Instructions.{Instruction, control, numeric, legacy, vector, atomic}
+use Rattle.wasm_operators.specs.Instructions.{Instruction, control, memory, numeric, legacy, cast, vector, atomic, wide, shared, continuation}
+use Rattle.wasm_operators.specs.WasmOperatorsPlain.declared.memories.BulkMemoryOperator.TheVariants.{MemoryDiscard}
+use Rattle.wasm_operators.specs.WasmOperatorsAtomic.declared.wide.WideOperator.{WideOperator}
 use Rattle.wasm_operators.specs.WasmOperatorsAtomic.WasmOperatorsVector.declared.operators.VectorOperator.{VectorOperator}
 use Rattle.wasm_operators.specs.WasmOperatorsAtomic.declared.operators.AtomicOperator.{AtomicOperator}
+use Rattle.wasm_operators.specs.WasmOperatorsAtomic.declared.shared.SharedAtomicOperator.{SharedAtomicOperator}
+use Rattle.wasm_operators.specs.WasmOperatorsProposals.declared.accesses.AccessValues.{AccessValues}
 use Rattle.wasm_operators.specs.declared.immediates.ImmediateValues.{ImmediateValues}
 use Rattle.wasm_operators.specs.Legacy.{Legacy}
+use Rattle.wasm_operators.specs.Continuations.{Continuation}
+use Rattle.wasm_operators.specs.References.{Cast, ref_get_desc, ref_cast_desc_eq, br_on_cast_desc_eq, br_on_cast_desc_eq_fail}
 use Rattle.wasm_spec_rules.specs.Worlds.{declared_in, world_of}
 use Rattle.wasm_operator_steps.specs.Bodies.{Surroundings, map_surroundings}
 use Rattle.wasm_operator_steps.specs.Machine.{State, map_state}
@@ -55,12 +61,30 @@ pub record KeepsVerdicts {R S : Type 0} (same : R → R → Bool) (renamed : S �
 abbrev pub VerdictsRename : (R S : Type 0) → Type 0
 VerdictsRename R S = Discrete R → (same : R → R → Bool) (renamed : S → S → Bool) (f : R → S) (B : Surroundings R) → KeepsVerdicts same renamed f B
 
--- Where one of their two features is off no step by an operator on vectors is taken, and none by an atomic operator.
+-- the descriptor of a reference, and casts and branches by descriptors
+abbrev pub is_on_descriptors : Cast ℕ → Bool
+is_on_descriptors (ref_get_desc x) = true
+is_on_descriptors (ref_cast_desc_eq q) = true
+is_on_descriptors (br_on_cast_desc_eq l r q) = true
+is_on_descriptors (br_on_cast_desc_eq_fail l r q) = true
+is_on_descriptors _ = false
+
+-- Where one of their two features is off no step is taken by an operator on vectors, by an atomic one, by an atomic access to a global, a
+-- table, a structure or an array, by an operator on descriptors or by one on continuations. Where its feature is off none is taken by a
+-- wide operator, and none by `memory.discard`.
 pub record AreOptIn {R : Type 0} (W : World R) (B : Surroundings R) : Type 0 where
   pub needs_vector_operators : B.features.vector_operators ≡ false → (op : VectorOperator) (values : ImmediateValues) (s : State R) → step_in W B (vector op values) s ≡ None
   pub needs_simd : B.features.simd ≡ false → (op : VectorOperator) (values : ImmediateValues) (s : State R) → step_in W B (vector op values) s ≡ None
   pub needs_atomic_operators : B.features.atomic_operators ≡ false → (op : AtomicOperator) (values : ImmediateValues) (s : State R) → step_in W B (atomic op values) s ≡ None
   pub needs_threads : B.features.threads ≡ false → (op : AtomicOperator) (values : ImmediateValues) (s : State R) → step_in W B (atomic op values) s ≡ None
+  pub needs_wide_arithmetic : B.features.wide_arithmetic ≡ false → (op : WideOperator) (s : State R) → step_in W B (wide op) s ≡ None
+  pub needs_memory_control : B.features.memory_control ≡ false → (x : ℕ) (s : State R) → step_in W B (memory (MemoryDiscard x)) s ≡ None
+  pub needs_shared_atomic_operators : B.features.shared_atomic_operators ≡ false → (op : SharedAtomicOperator) (values : AccessValues) (s : State R) → step_in W B (shared op values) s ≡ None
+  pub needs_shared_everything_threads : B.features.shared_everything_threads ≡ false → (op : SharedAtomicOperator) (values : AccessValues) (s : State R) → step_in W B (shared op values) s ≡ None
+  pub needs_descriptor_operators : B.features.descriptor_operators ≡ false → (op : Cast ℕ) (s : State R) → is_on_descriptors op ≡ true → step_in W B (cast op) s ≡ None
+  pub needs_custom_descriptors : B.features.custom_descriptors ≡ false → (op : Cast ℕ) (s : State R) → is_on_descriptors op ≡ true → step_in W B (cast op) s ≡ None
+  pub needs_stack_switching_operators : B.features.stack_switching_operators ≡ false → (op : Continuation) (s : State R) → step_in W B (continuation op) s ≡ None
+  pub needs_stack_switching : B.features.stack_switching ≡ false → (op : Continuation) (s : State R) → step_in W B (continuation op) s ≡ None
 
 abbrev pub OperatorsAreOptIn : (R : Type 0) → Type 0
 OperatorsAreOptIn R = (W : World R) (B : Surroundings R) → AreOptIn W B

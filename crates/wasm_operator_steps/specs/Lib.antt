@@ -2,6 +2,8 @@ pub use Rattle.wasm_spec_rules.specs as WasmSpecRules
 pub use Rattle.wasm_operators.specs.Control
 pub use Rattle.wasm_operators.specs.SeenControl
 pub use Rattle.wasm_operators.specs.declared.control.FrameKind
+pub use Rattle.wasm_operators.specs.WasmOperatorsAtomic.declared.shared_forms.Access
+pub use Rattle.wasm_operators.specs.WasmOperatorsAtomic.declared.shared_forms.SharedForm
 pub mod Matching
 pub mod Bodies
 pub mod Machine
@@ -12,6 +14,7 @@ pub mod Shapes
 pub mod Steps
 pub mod Renaming
 pub mod ConstantExpressions
+pub mod Served
 pub mod Sequences
 pub mod ConstantRules
 pub mod FunctionBodies

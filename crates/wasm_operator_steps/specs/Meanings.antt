@@ -2,7 +2,7 @@
 -- Core Specification 3.0, Appendix, Validation Algorithm, and Validation, Instructions.
 use Rattle.std.specs.Prelude.{ℕ, zero, suc, Bool, true, false, not, ◌&&◌, ◌||◌, ◌==◌, ◌^◌, ◌-◌, nat_lt, nat_le, List, [], ◌∷◌, ◌++◌, map, length, drop, Option, Some, None, is_some, slice_get, if◌then◌else◌}
 use Rattle.std.specs.Option.{option_map}
-use Rattle.wasm_spec_rules.specs.WasmSpec.Syntax.{AbstractHeap, eq_heap, cont_heap, Heap, abstract_heap, concrete, exact, Ref, Val, i32, i64, f32, f64, v128, reference, Storage, i8, i16, unpacked, Field, Comp, array, struct, Sub, Memory}
+use Rattle.wasm_spec_rules.specs.WasmSpec.Syntax.{AbstractHeap, eq_heap, cont_heap, Heap, abstract_heap, concrete, exact, Ref, Val, i32, i64, f32, f64, v128, reference, Storage, i8, i16, unpacked, Field, Comp, array, struct, cont, Sub, Memory}
 use Rattle.wasm_spec_rules.specs.WasmSpec.Features.{Features}
 use Rattle.wasm_spec_rules.specs.WasmSpec.ValueTypes.{implies, allows_val}
 use Rattle.wasm_spec_rules.specs.WasmSpec.CrateLimits.{most_clauses, is_within}
@@ -15,11 +15,11 @@ use Rattle.wasm_operators.specs.WasmOperatorsPlain.declared.memories.MemoryOpera
 use Rattle.wasm_operators.specs.WasmOperatorsPlain.declared.memories.MemArg.{MemArg}
 use Rattle.wasm_spec_rules.specs.Attempts.{◌>>=◌, guard, passes, among, last_of, front_of, list_of}
 use Rattle.wasm_spec_rules.specs.Signatures.{Signature, signature_of, resolve_heap, resolve_ref, resolve_val, resolve_vals}
-use Rattle.wasm_operator_steps.specs.Matching.{matches_vals, matches_storage}
+use Rattle.wasm_operator_steps.specs.Matching.{matches_vals, match_some, matches_storage}
 use Rattle.wasm_operator_steps.specs.Bodies.{Surroundings}
 use Rattle.wasm_operator_steps.specs.Machine.{Operand, bottom_reference, open_reference, known, Kind, loop_kind, if_kind, else_kind, is_if, may_catch, Frame, State, delegates, rethrows, push_operand, push_vals, pop_any, pop_reference, non_null, same_number, chosen, become_unreachable, push_frame, set_local, pop_vals}
 use Rattle.wasm_operator_steps.specs.Forms.{suits_form, memarg_of, reaches_memory}
-use Rattle.wasm_operator_steps.specs.Actions.{Signed, of_type, of_function, of_tag, OperandTypes, these, params, results, label, returned, local, global, function_reference, new_reference, fields, element, field, table_address, memory_address, table_element, segment, lesser_table_address, lesser_memory_address, top, descriptor_of, repeated, front, last, joined, Needed, multi_value, reference_types, bulk_memory, exceptions, function_references, gc, shared_everything_threads, custom_descriptors, legacy_exceptions, few_clauses, atomic_operators, vector_operators, threads, simd, Check, has, allows, global_is_mutable, local_is_set, function_is_referenced, is_exception, each_matches, may_be_cast, can_be_tested, is_aligned, suits, fields_have_defaults, has_no_descriptor, field_is_mutable, field_is_packed, element_is_mutable, element_has_default, element_is_number, element_is_packed, element_is_storable, data_is_there, segment_is_there, reaches_global, reaches_table, reaches_type, reaches_function, Action, need, refuse, take, give, take_any, take_reference, take_comparable, make_non_null, choose, stop, turn_to_else, leave, take_below, convert, enter, turn_to_catch, find_outside, find_caught, set, branch_on_null, branch_to_one_of}
+use Rattle.wasm_operator_steps.specs.Actions.{Signed, of_type, of_function, of_tag, OperandTypes, these, params, results, label, returned, local, global, function_reference, new_reference, fields, element, field, table_address, memory_address, table_element, segment, lesser_table_address, lesser_memory_address, top, descriptor_of, descriptor_for, repeated, front, last, continued, taken_by, given_by, joined, before, behind, Needed, multi_value, reference_types, bulk_memory, exceptions, function_references, gc, shared_everything_threads, custom_descriptors, legacy_exceptions, wide_arithmetic, memory_control, descriptor_operators, shared_atomic_operators, stack_switching, stack_switching_operators, few_clauses, atomic_operators, vector_operators, threads, simd, Check, has, allows, global_is_mutable, local_is_set, function_is_referenced, is_exception, each_matches, each_matches_some, may_be_cast, can_be_tested, is_aligned, suits, fields_have_defaults, has_no_descriptor, field_is_mutable, field_is_packed, element_is_mutable, element_has_default, element_is_number, element_is_packed, element_is_storable, data_is_there, segment_is_there, reaches_global, reaches_table, reaches_type, reaches_function, Action, need, refuse, take, give, take_any, take_reference, take_comparable, make_non_null, choose, stop, turn_to_else, leave, take_below, convert, describe, enter, turn_to_catch, find_outside, find_caught, set, branch_on_null, branch_to_one_of}
 
 module _ {R : Type 0} where
   abbrev pub ref_to : Bool → Heap R → Val R
@@ -31,6 +31,17 @@ module _ {R : Type 0} where
   resolve_block ts (value_block v) = option_map value_block (resolve_val ts v)
   resolve_block ts (func_block n) = Some (func_block n)
 
+  -- the defined type that a heap type names
+  abbrev pub defined_in : Heap R → Option R
+  defined_in (abstract_heap s k) = None
+  defined_in (concrete a) = Some a
+  defined_in (exact a) = Some a
+
+  abbrev pub firsts : ℕ → List (Val R) → List (Val R)
+  firsts zero vs = []
+  firsts (suc n) [] = []
+  firsts (suc n) (v ∷ vs) = v ∷ firsts n vs
+
   -- composite types of one kind
   abbrev pub fields_of : Comp R → Option (List (Field R))
   fields_of (struct xs) = Some xs
@@ -39,6 +50,22 @@ module _ {R : Type 0} where
   abbrev pub element_of : Comp R → Option (Field R)
   element_of (array x) = Some x
   element_of _ = None
+
+  abbrev pub cont_of : Comp R → Option R
+  cont_of (cont a) = Some a
+  cont_of _ = None
+
+  -- what a reference type refers to, where that is a defined type
+  abbrev pub referred : Val R → Option R
+  referred (reference r) = defined_in r.heap
+  referred _ = None
+
+  -- the first of some types, down to the last so many; and these
+  abbrev pub all_but : ℕ → List (Val R) → Option (List (Val R))
+  all_but n vs = guard (nat_le n (length vs)) (firsts (length vs - n) vs)
+
+  abbrev pub last_ones : ℕ → List (Val R) → Option (List (Val R))
+  last_ones n vs = guard (nat_le n (length vs)) (drop (length vs - n) vs)
 
   abbrev pub unpack_field : Field R → Val R
   unpack_field x = unpack x.storage
@@ -84,6 +111,12 @@ is_on F threads = F.threads
 is_on F vector_operators = F.vector_operators
 is_on F atomic_operators = F.atomic_operators
 is_on F legacy_exceptions = F.legacy_exceptions
+is_on F wide_arithmetic = F.wide_arithmetic
+is_on F memory_control = F.memory_control
+is_on F descriptor_operators = F.descriptor_operators
+is_on F shared_atomic_operators = F.shared_atomic_operators
+is_on F stack_switching = F.stack_switching
+is_on F stack_switching_operators = F.stack_switching_operators
 is_on F (few_clauses n) = is_within F most_clauses n
 
 -- an alignment no greater than the bytes accessed, and an offset that an address has room for
@@ -152,6 +185,12 @@ module _ {R : Type 0} (W : World R) (B : Surroundings R) where
   abbrev pub descriptor_at : ℕ → Option R
   descriptor_at n = sub_at n >>= λ d. d.descriptor
 
+  -- that of the type that a heap type names, exactly where it does so; none of an abstract heap type
+  abbrev pub descriptor_heap : Heap ℕ → Option (Heap R)
+  descriptor_heap (abstract_heap s k) = None
+  descriptor_heap (concrete n) = option_map concrete (descriptor_at n)
+  descriptor_heap (exact n) = option_map exact (descriptor_at n)
+
   abbrev pub top_heap : Heap ℕ → Option (Heap R)
   top_heap h = resolve_heap B.context.types h >>= top_of_heap W.declared
 
@@ -160,6 +199,14 @@ module _ {R : Type 0} (W : World R) (B : Surroundings R) where
 
   abbrev pub memory_is_64 : ℕ → Option Bool
   memory_is_64 n = option_map (λ m. m.is_64) (slice_get B.context.memories n)
+
+  -- the signature of the function that a continuation type is of
+  abbrev pub continuation_signature : R → Option (Signature R)
+  continuation_signature a = W.declared a >>= λ d. cont_of d.comp >>= λ b. W.declared b >>= λ e. signature_of e.comp
+
+  -- of the continuation that the last of some types refers to
+  abbrev pub continued_signature : List (Val R) → Option (Signature R)
+  continued_signature vs = last_of vs >>= referred >>= continuation_signature
 
   abbrev pub types_at : State R → OperandTypes → Option (List (Val R))
   types_at s (these vs) = resolve_vals B.context.types vs
@@ -182,9 +229,21 @@ module _ {R : Type 0} (W : World R) (B : Surroundings R) where
   types_at s (lesser_memory_address m n) = one (option_map address (both (memory_is_64 m) (memory_is_64 n)))
   types_at s (top r) = one (option_map (ref_to true) (top_heap r.heap))
   types_at s (descriptor_of n) = one (option_map (λ a. ref_to true (exact a)) (descriptor_at n))
+  types_at s (descriptor_for h) = one (option_map (ref_to true) (descriptor_heap h))
   types_at s (repeated n t) = option_map (copies n) (types_at s t)
   types_at s (front t) = option_map front_of (types_at s t)
   types_at s (last t) = one (types_at s t >>= last_of)
+  types_at s (continued n) = one (option_map (λ a. ref_to true (concrete a)) (comp_at n >>= cont_of))
+  types_at s (taken_by t) = option_map (λ g. g.takes) (types_at s t >>= continued_signature)
+  types_at s (given_by t) = option_map (λ g. g.gives) (types_at s t >>= continued_signature)
+  types_at s (before t u) = do
+    vs ← types_at s t
+    ws ← types_at s u
+    all_but (length ws) vs
+  types_at s (behind t u) = do
+    vs ← types_at s t
+    ws ← types_at s u
+    last_ones (length ws) vs
   types_at s (joined t u) = do
     vs ← types_at s t
     ws ← types_at s u
@@ -204,6 +263,7 @@ module _ {R : Type 0} (W : World R) (B : Surroundings R) where
   holds s (function_is_referenced n) = among n B.context.references
   holds s (is_exception n) = passes (λ g. length g.gives == 0) (signature_at (of_tag n))
   holds s (each_matches t u) = passes (λ vs. passes (matches_vals W vs) (types_at s u)) (types_at s t)
+  holds s (each_matches_some t u) = passes (λ vs. passes (λ ws. match_some W ws vs) (types_at s u)) (types_at s t)
   holds s (may_be_cast r q) = passes (λ a. passes (casts a) (resolve_ref B.context.types q)) (resolve_ref B.context.types r)
   holds s (can_be_tested r) = passes (λ h. not (is_of_continuations h)) (top_heap r.heap)
   holds s (is_aligned op m) = passes (allows_memarg op m) (slice_get B.context.memories m.memory)
@@ -279,6 +339,15 @@ module _ {R : Type 0} (W : World R) (B : Surroundings R) where
   labels_fit s k [] = true
   labels_fit s k (n ∷ ns) = passes (λ vs. (length vs == k) && is_some (pop_vals W vs s)) (label_at s n) && labels_fit s k ns
 
+  -- A reference, or null, to exactly a type is turned into one to exactly its descriptor, and any other to the type into one to the
+  -- descriptor.
+  abbrev pub described_by : R → Option (State R) → Option (State R) → Option (State R)
+  described_by b (Some t) other = Some (push_operand (known (ref_to false (exact b))) t)
+  described_by b None other = option_map (push_operand (known (ref_to false (concrete b)))) other
+
+  abbrev pub described : R → R → State R → Option (State R)
+  described a b s = described_by b (pop_vals W (ref_to true (exact a) ∷ []) s) (pop_vals W (ref_to true (concrete a) ∷ []) s)
+
   abbrev pub act : Action → State R → Option (State R)
   act (need c) s = guard (holds s c) s
   act refuse s = None
@@ -307,6 +376,10 @@ module _ {R : Type 0} (W : World R) (B : Surroundings R) where
   act (convert j k) s = do
     p ← pop_reference s
     guard (is_below_either j p.0) (push_operand (converted k p.0) p.1)
+  act (describe n) s = do
+    a ← slice_get B.context.types n
+    b ← descriptor_at n
+    described a b s
   act choose s = do
     p ← pop_any s
     q ← pop_any p.1

@@ -1,7 +1,8 @@
 -- The first table: each instruction has one of few shapes, with what it checks, takes and gives.
--- Core Specification 3.0, Validation, Instructions, and the proposals for shared references and for custom descriptors.
+-- Core Specification 3.0, Validation, Instructions, and the proposals for shared references, for custom descriptors, for wide arithmetic, for
+-- memory control and for stack switching.
 use Rattle.std.specs.Prelude.{ℕ, Bool, true, false, if◌then◌else◌, List, [], ◌∷◌, ◌++◌, length, map, Option, Some, None}
-use Rattle.wasm_spec_rules.specs.WasmSpec.Syntax.{AbstractHeap, any_heap, i31_heap, array_heap, func_heap, extern_heap, exn_heap, Heap, abstract_heap, concrete, Ref, Val, i32, i64, f32, f64, v128, reference}
+use Rattle.wasm_spec_rules.specs.WasmSpec.Syntax.{AbstractHeap, any_heap, eq_heap, i31_heap, array_heap, func_heap, extern_heap, exn_heap, Heap, abstract_heap, concrete, Ref, Val, i32, i64, f32, f64, v128, reference}
 use Rattle.wasm_operators.specs.WasmOperatorsPlain.Signatures.{signature_of, saturating_signature_of}
 use Rattle.wasm_operators.specs.WasmOperatorsPlain.declared.signatures.NumberType.{NumberType}
 use Rattle.wasm_operators.specs.WasmOperatorsPlain.declared.signatures.NumberType.TheVariants as number
@@ -13,6 +14,10 @@ use Rattle.wasm_operators.specs.Legacy as legacy
 use Rattle.wasm_operators.specs.Legacy.{Legacy}
 use Rattle.wasm_operators.specs.References as references
 use Rattle.wasm_operators.specs.References.{Reference, Cast}
+use Rattle.wasm_operators.specs.Continuations as continuations
+use Rattle.wasm_operators.specs.Continuations.{Continuation}
+use Rattle.wasm_operators.specs.WasmOperatorsProposals.declared.continuations.Handle.{Handle}
+use Rattle.wasm_operators.specs.WasmOperatorsProposals.declared.continuations.Handle.TheVariants as handle
 use Rattle.wasm_operators.specs.Instructions as instruction
 use Rattle.wasm_operators.specs.Instructions.{Instruction}
 use Rattle.wasm_operators.specs.declared.control.Catch.{Catch}
@@ -27,13 +32,15 @@ use Rattle.wasm_operators.specs.WasmOperatorsPlain.declared.memories.MemoryOpera
 use Rattle.wasm_operators.specs.WasmOperatorsPlain.declared.memories.MemoryOperator.TheVariants.{I32Load, I64Load, F32Load, F64Load, I32Load8S, I32Load8U, I32Load16S, I32Load16U, I64Load8S, I64Load8U, I64Load16S, I64Load16U, I64Load32S, I64Load32U, I32Store, I64Store, F32Store, F64Store, I32Store8, I32Store16, I64Store8, I64Store16, I64Store32}
 use Rattle.wasm_operators.specs.WasmOperatorsPlain.declared.memories.MemArg.{MemArg}
 use Rattle.wasm_operators.specs.WasmOperatorsPlain.declared.memories.BulkMemoryOperator.{BulkMemoryOperator}
-use Rattle.wasm_operators.specs.WasmOperatorsPlain.declared.memories.BulkMemoryOperator.TheVariants.{MemorySize, MemoryGrow, MemoryInit, DataDrop, MemoryCopy, MemoryFill}
+use Rattle.wasm_operators.specs.WasmOperatorsPlain.declared.memories.BulkMemoryOperator.TheVariants.{MemorySize, MemoryGrow, MemoryInit, DataDrop, MemoryCopy, MemoryFill, MemoryDiscard}
 use Rattle.wasm_operators.specs.WasmOperatorsPlain.declared.constants.ConstantOperator.{ConstantOperator}
 use Rattle.wasm_operators.specs.WasmOperatorsPlain.declared.constants.ConstantOperator.TheVariants.{I32Const, I64Const, F32Const, F64Const, V128Const}
 use Rattle.wasm_operators.specs.WasmOperatorsPlain.declared.conversions.ConversionOperator.{ConversionOperator}
 use Rattle.wasm_operators.specs.WasmOperatorsPlain.declared.conversions.ConversionOperator.TheVariants.{AnyConvertExtern, ExternConvertAny, RefI31, I31GetS, I31GetU, RefI31Shared}
 use Rattle.wasm_operators.specs.WasmOperatorsPlain.declared.structs.StructOperator.{StructOperator}
 use Rattle.wasm_operators.specs.WasmOperatorsPlain.declared.structs.StructOperator.TheVariants.{StructNew, StructNewDefault, StructGet, StructGetS, StructGetU, StructSet, StructNewDesc, StructNewDefaultDesc}
+use Rattle.wasm_operators.specs.WasmOperatorsAtomic.declared.wide.WideOperator.{WideOperator}
+use Rattle.wasm_operators.specs.WasmOperatorsAtomic.declared.wide.WideOperator.TheVariants.{I64Add128, I64Sub128, I64MulWideS, I64MulWideU}
 use Rattle.wasm_operators.specs.WasmOperatorsPlain.declared.arrays.ArrayOperator.{ArrayOperator}
 use Rattle.wasm_operators.specs.WasmOperatorsPlain.declared.arrays.ArrayOperator.TheVariants.{ArrayNew, ArrayNewDefault, ArrayNewFixed, ArrayNewData, ArrayNewElem, ArrayGet, ArrayGetS, ArrayGetU, ArraySet, ArrayLen, ArrayFill, ArrayCopy, ArrayInitData, ArrayInitElem}
 use Rattle.wasm_operator_steps.specs.Machine.{Kind, block_kind, loop_kind, if_kind, try_table_kind, legacy_try_kind, legacy_catch_kind, legacy_catch_all_kind}
@@ -42,14 +49,22 @@ use Rattle.wasm_operators.specs.WasmOperatorsAtomic.WasmOperatorsVector.declared
 use Rattle.wasm_operators.specs.WasmOperatorsAtomic.Forms as atomics
 use Rattle.wasm_operators.specs.WasmOperatorsAtomic.declared.operators.AtomicOperator.{AtomicOperator}
 use Rattle.wasm_operators.specs.WasmOperatorsAtomic.WasmOperatorsVector.declared.forms.Form.{Form}
+use Rattle.wasm_operators.specs.WasmOperatorsAtomic.SharedForms as shareds
+use Rattle.wasm_operators.specs.WasmOperatorsAtomic.declared.shared.SharedAtomicOperator.{SharedAtomicOperator}
+use Rattle.wasm_operators.specs.WasmOperatorsAtomic.declared.shared_forms.SharedForm.{SharedForm}
+use Rattle.wasm_operators.specs.WasmOperatorsAtomic.declared.shared_forms.SharedForm.TheVariants as form
+use Rattle.wasm_operators.specs.WasmOperatorsAtomic.declared.shared_forms.Access.{Access}
+use Rattle.wasm_operators.specs.WasmOperatorsAtomic.declared.shared_forms.Access.TheVariants as access
+use Rattle.wasm_operators.specs.WasmOperatorsProposals.declared.accesses.AccessValues.{AccessValues}
 use Rattle.wasm_operators.specs.declared.immediates.ImmediateValues.{ImmediateValues}
 use Rattle.wasm_operator_steps.specs.Forms.{types_taken, types_given, memarg_of}
-use Rattle.wasm_operator_steps.specs.Actions.{of_type, of_function, of_tag, OperandTypes, these, params, results, label, returned, local, global, function_reference, new_reference, fields, element, field, table_address, memory_address, table_element, segment, lesser_table_address, lesser_memory_address, top, descriptor_of, repeated, front, last, joined, Needed, multi_value, reference_types, bulk_memory, exceptions, function_references, gc, shared_everything_threads, custom_descriptors, legacy_exceptions, few_clauses, Check, has, allows, global_is_mutable, local_is_set, function_is_referenced, is_exception, each_matches, may_be_cast, can_be_tested, is_aligned, fields_have_defaults, has_no_descriptor, field_is_mutable, field_is_packed, element_is_mutable, element_has_default, element_is_number, element_is_packed, element_is_storable, data_is_there, segment_is_there, reaches_global, reaches_table, reaches_type, reaches_function, suits, simd, threads, vector_operators, atomic_operators}
+use Rattle.wasm_operator_steps.specs.Actions.{of_type, of_function, of_tag, OperandTypes, these, params, results, label, returned, local, global, function_reference, new_reference, fields, element, field, table_address, memory_address, table_element, segment, lesser_table_address, lesser_memory_address, top, descriptor_of, descriptor_for, repeated, front, last, continued, taken_by, given_by, joined, before, behind, Needed, multi_value, reference_types, bulk_memory, exceptions, function_references, gc, shared_everything_threads, custom_descriptors, legacy_exceptions, few_clauses, Check, has, allows, global_is_mutable, local_is_set, function_is_referenced, is_exception, each_matches, each_matches_some, may_be_cast, can_be_tested, is_aligned, fields_have_defaults, has_no_descriptor, field_is_mutable, field_is_packed, element_is_mutable, element_has_default, element_is_number, element_is_packed, element_is_storable, data_is_there, segment_is_there, reaches_global, reaches_table, reaches_type, reaches_function, suits, simd, threads, vector_operators, atomic_operators, wide_arithmetic, memory_control, descriptor_operators, shared_atomic_operators, stack_switching, stack_switching_operators}
 
 -- Shapes: takes some operands and gives others; takes some, and what follows isn't reached; takes some and enters a block; `end`; `else`;
 -- takes any operand; chooses one of two; tests a reference for null; asserts that it isn't null; branches where it is null; branches
 -- where it isn't; branches by a table; sets a local; sets it and gives it back; takes a reference below an abstract heap type, shared
--- or not; takes two that may be compared; turns a reference of one hierarchy into one of another; is never valid; turns a `try` to a `catch`
+-- or not; takes two that may be compared; turns a reference of one hierarchy into one of another, or a reference to a type of an index into
+-- its descriptor; is never valid; turns a `try` to a `catch`
 -- or to its `catch_all`, over these operands; ends a `try` and hands its exceptions to a label; throws again what the frame of a label has
 -- caught.
 pub data Shape : Type 0 where
@@ -64,6 +79,7 @@ pub data Shape : Type 0 where
   measuring : List Check → AbstractHeap → OperandTypes → Shape
   comparing : List Check → OperandTypes → Shape
   converting : List Check → AbstractHeap → AbstractHeap → Shape
+  describing : List Check → ℕ → Shape
   catching : List Check → OperandTypes → Kind → Shape
   delegating rethrowing : List Check → ℕ → Shape
 
@@ -220,6 +236,7 @@ memory_shape (MemoryFill x) = plain (has bulk_memory ∷ []) (joined (memory_add
 memory_shape (MemoryCopy x y) = plain (has bulk_memory ∷ []) (joined (memory_address x) (joined (memory_address y) (lesser_memory_address x y))) nothing
 memory_shape (MemoryInit y x) = plain (has bulk_memory ∷ data_is_there y ∷ []) (with_i32s (memory_address x) (i32 ∷ i32 ∷ [])) nothing
 memory_shape (DataDrop y) = plain (has bulk_memory ∷ data_is_there y ∷ []) nothing nothing
+memory_shape (MemoryDiscard x) = plain (has memory_control ∷ []) (joined (memory_address x) (memory_address x)) nothing
 
 -- Numeric Instructions, and the constant of Vector Instructions
 abbrev pub constant_type : ConstantOperator → Val ℕ
@@ -263,11 +280,22 @@ branch_checks l r q sent = has gc ∷ allows (reference r) ∷ allows (reference
 abbrev pub kept : ℕ → Val ℕ → OperandTypes
 kept l v = joined (front (label l)) (one v)
 
+-- The instructions on descriptors of the proposal for custom descriptors need two features. Above the reference of a cast or a branch stands
+-- a descriptor of the type that it is cast to.
+abbrev pub descriptor_checks : List Check → List Check
+descriptor_checks cs = has descriptor_operators ∷ has custom_descriptors ∷ cs
+
 abbrev pub cast_shape : Cast ℕ → Shape
 cast_shape (references.ref_test q) = plain (cast_checks q) (top q) (one i32)
 cast_shape (references.ref_cast q) = plain (cast_checks q) (top q) (one (reference q))
 cast_shape (references.br_on_cast l r q) = plain (branch_checks l r q (reference q)) (kept l (reference r)) (kept l (difference r q))
 cast_shape (references.br_on_cast_fail l r q) = plain (branch_checks l r q (difference r q)) (kept l (reference r)) (kept l (reference q))
+cast_shape (references.ref_get_desc x) = describing (descriptor_checks (reaches_type x ∷ [])) x
+cast_shape (references.ref_cast_desc_eq q) = plain (descriptor_checks (cast_checks q)) (joined (top q) (descriptor_for q.heap)) (one (reference q))
+cast_shape (references.br_on_cast_desc_eq l r q) =
+    plain (descriptor_checks (branch_checks l r q (reference q))) (joined (kept l (reference r)) (descriptor_for q.heap)) (kept l (difference r q))
+cast_shape (references.br_on_cast_desc_eq_fail l r q) =
+    plain (descriptor_checks (branch_checks l r q (difference r q))) (joined (kept l (reference r)) (descriptor_for q.heap)) (kept l (reference q))
 
 -- External and unboxed references: each type that is given is one that the features allow
 abbrev pub small_integer : Bool → Val ℕ
@@ -346,6 +374,134 @@ vector_shape op values = form_shape (has vector_operators ∷ has simd ∷ []) (
 abbrev pub atomic_shape : AtomicOperator → ImmediateValues → Shape
 atomic_shape op values = form_shape (has atomic_operators ∷ has threads ∷ []) (atomics.form_of op) values
 
+-- The instructions of the wide-arithmetic proposal: a number of 128 bits is two of 64 bits, and each instruction gives one
+abbrev pub wide_taken : WideOperator → List (Val ℕ)
+wide_taken I64Add128 = i64 ∷ i64 ∷ i64 ∷ i64 ∷ []
+wide_taken I64Sub128 = i64 ∷ i64 ∷ i64 ∷ i64 ∷ []
+wide_taken I64MulWideS = i64 ∷ i64 ∷ []
+wide_taken I64MulWideU = i64 ∷ i64 ∷ []
+
+abbrev pub wide_shape : WideOperator → Shape
+wide_shape op = plain (has wide_arithmetic ∷ []) (these (wide_taken op)) (these (i64 ∷ i64 ∷ []))
+
+-- Atomic accesses to globals, tables, structures and arrays (Shared-Everything Threads, Validation, Instructions), each told by its form.
+-- What is stored is a number, or a reference below `any` where an access gives or stores it, and below `eq` where it compares it. Below
+-- the shared ones of these it is in tables, structures and arrays.
+abbrev pub with_reference_below : Bool → AbstractHeap → OperandTypes
+with_reference_below shared k = these (i32 ∷ i64 ∷ reference_to true (abstract_heap shared k) ∷ [])
+
+abbrev pub allowed_types : Bool → Access → OperandTypes
+allowed_types shared access.Get = with_reference_below shared any_heap
+allowed_types shared access.Set = with_reference_below shared any_heap
+allowed_types shared access.Compute = these (i32 ∷ i64 ∷ [])
+allowed_types shared access.Exchange = with_reference_below shared any_heap
+allowed_types shared access.Compare = with_reference_below shared eq_heap
+
+-- the checks of what is written, and of what is written as it was given, so that it isn't packed
+abbrev pub where_written : Access → List Check → List Check
+where_written access.Get cs = []
+where_written _ cs = cs
+
+abbrev pub where_given : Access → List Check → List Check
+where_given access.Set cs = []
+where_given _ cs = cs
+
+-- the operands behind what says where, and what is given
+abbrev pub access_taken : Access → OperandTypes → OperandTypes → OperandTypes
+access_taken access.Get place value = place
+access_taken access.Compare place value = joined place (joined value value)
+access_taken _ place value = joined place value
+
+abbrev pub access_given : Access → OperandTypes → OperandTypes
+access_given access.Set value = nothing
+access_given _ value = value
+
+-- what says where, and the type of what is stored there
+abbrev pub shared_place : SharedForm → AccessValues → OperandTypes
+shared_place form.Pause v = nothing
+shared_place (form.Global a) v = nothing
+shared_place (form.Table a) v = table_address v.index
+shared_place (form.Field a) v = one (nullable_to v.index)
+shared_place form.PackedField v = one (nullable_to v.index)
+shared_place (form.Element a) v = these (nullable_to v.index ∷ i32 ∷ [])
+shared_place form.PackedElement v = these (nullable_to v.index ∷ i32 ∷ [])
+
+abbrev pub shared_value : SharedForm → AccessValues → OperandTypes
+shared_value form.Pause v = nothing
+shared_value (form.Global a) v = global v.index
+shared_value (form.Table a) v = table_element v.index
+shared_value (form.Field a) v = field v.index v.field_index
+shared_value form.PackedField v = field v.index v.field_index
+shared_value (form.Element a) v = element v.index
+shared_value form.PackedElement v = element v.index
+
+abbrev pub access_of : SharedForm → Access
+access_of form.Pause = access.Get
+access_of (form.Global a) = a
+access_of (form.Table a) = a
+access_of (form.Field a) = a
+access_of form.PackedField = access.Get
+access_of (form.Element a) = a
+access_of form.PackedElement = access.Get
+
+abbrev pub shared_checks : SharedForm → AccessValues → List Check
+shared_checks form.Pause v = []
+shared_checks (form.Global a) v = reaches_global v.index ∷ each_matches_some (global v.index) (allowed_types false a) ∷ where_written a (global_is_mutable v.index ∷ [])
+shared_checks (form.Table a) v = reaches_table v.index ∷ each_matches_some (table_element v.index) (allowed_types true a) ∷ []
+shared_checks (form.Field a) v =
+    has gc ∷ reaches_type v.index ∷ each_matches_some (field v.index v.field_index) (allowed_types true a)
+    ∷ where_written a (field_is_mutable v.index v.field_index ∷ []) ++ where_given a (field_is_packed false v.index v.field_index ∷ [])
+shared_checks form.PackedField v = has gc ∷ reaches_type v.index ∷ field_is_packed true v.index v.field_index ∷ []
+shared_checks (form.Element a) v =
+    has gc ∷ reaches_type v.index ∷ each_matches_some (element v.index) (allowed_types true a)
+    ∷ where_written a (element_is_mutable v.index ∷ []) ++ where_given a (element_is_packed false v.index ∷ [])
+shared_checks form.PackedElement v = has gc ∷ reaches_type v.index ∷ element_is_packed true v.index ∷ []
+
+abbrev pub sharing_shape : List Check → SharedForm → AccessValues → Shape
+sharing_shape cs f v = plain (cs ++ shared_checks f v) (access_taken (access_of f) (shared_place f v) (shared_value f v)) (access_given (access_of f) (shared_value f v))
+
+abbrev pub shared_shape : SharedAtomicOperator → AccessValues → Shape
+shared_shape op v = sharing_shape (has shared_atomic_operators ∷ has shared_everything_threads ∷ []) (shareds.shared_form_of op) v
+
+-- The instructions on continuations (the stack-switching proposal, Validation, Instructions). What a continuation of a type takes and gives
+-- is told by a reference to it.
+abbrev pub takes_of : ℕ → OperandTypes
+takes_of n = taken_by (one (nullable_to n))
+
+abbrev pub gives_of : ℕ → OperandTypes
+gives_of n = given_by (one (nullable_to n))
+
+-- What becomes of a suspension while a continuation of a type runs. Where it branches to a label, this takes what the tag takes, and on top
+-- a reference to a continuation, which takes what the tag gives and gives what the one that runs would. Where it is a switch, the tag takes
+-- nothing, and gives what the one that runs may give in its place.
+abbrev pub handle_checks : ℕ → List Handle → List Check
+handle_checks n [] = []
+handle_checks n (handle.OnLabel x l ∷ hs) =
+    each_matches (params (of_tag x)) (front (label l)) ∷ each_matches (taken_by (label l)) (results (of_tag x)) ∷ each_matches (gives_of n) (given_by (label l)) ∷ handle_checks n hs
+handle_checks n (handle.OnSwitch x ∷ hs) = each_matches (params (of_tag x)) nothing ∷ each_matches (results (of_tag x)) (gives_of n) ∷ handle_checks n hs
+
+-- behind some checks: a continuation is resumed by these operands, and gives its results in the end
+abbrev pub resuming : List Check → ℕ → List Check → OperandTypes → Shape
+resuming cs n ds t = plain (cs ++ reaches_type n ∷ ds) (joined t (one (nullable_to n))) (gives_of n)
+
+-- behind some checks; the continuation that is switched from is what the other one gets last
+abbrev pub continuing : List Check → Continuation → Shape
+continuing cs (continuations.cont_new n) = plain (cs ++ reaches_type n ∷ []) (continued n) (one (reference_to false (concrete n)))
+continuing cs (continuations.cont_bind m n) =
+    plain (cs ++ reaches_type m ∷ reaches_type n ∷ each_matches (takes_of n) (behind (takes_of m) (takes_of n)) ∷ each_matches (gives_of m) (gives_of n) ∷ [])
+    (joined (before (takes_of m) (takes_of n)) (one (nullable_to m))) (one (reference_to false (concrete n)))
+continuing cs (continuations.suspend x) = plain cs (params (of_tag x)) (results (of_tag x))
+continuing cs (continuations.resume n hs) = resuming cs n (handle_checks n hs) (takes_of n)
+continuing cs (continuations.resume_throw n x hs) = resuming cs n (is_exception x ∷ handle_checks n hs) (params (of_tag x))
+continuing cs (continuations.resume_throw_ref n hs) = resuming cs n (handle_checks n hs) (one (reference_to true (abstract_heap false exn_heap)))
+continuing cs (continuations.switch n x) =
+    plain (cs ++ reaches_type n ∷ each_matches (params (of_tag x)) nothing ∷ each_matches (gives_of n) (results (of_tag x)) ∷ each_matches (results (of_tag x)) (given_by (takes_of n)) ∷ [])
+    (joined (front (takes_of n)) (one (nullable_to n))) (taken_by (takes_of n))
+
+-- each needs two features
+abbrev pub continuation_shape : Continuation → Shape
+continuation_shape op = continuing (has stack_switching_operators ∷ has stack_switching ∷ []) op
+
 -- all instructions
 abbrev pub shape_of : Instruction ℕ → Shape
 shape_of (instruction.control op) = control_shape op
@@ -366,3 +522,6 @@ shape_of (instruction.structure op) = struct_shape op
 shape_of (instruction.array op) = array_shape op
 shape_of (instruction.vector op values) = vector_shape op values
 shape_of (instruction.atomic op values) = atomic_shape op values
+shape_of (instruction.wide op) = wide_shape op
+shape_of (instruction.continuation op) = continuation_shape op
+shape_of (instruction.shared op values) = shared_shape op values

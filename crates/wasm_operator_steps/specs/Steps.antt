@@ -9,8 +9,8 @@ use Rattle.wasm_spec_rules.specs.Attempts.{◌>>=◌, guard, passes}
 use Rattle.wasm_spec_rules.specs.Worlds.{world_of}
 use Rattle.wasm_operator_steps.specs.Bodies.{Local, Surroundings}
 use Rattle.wasm_operator_steps.specs.Machine.{block_kind, State}
-use Rattle.wasm_operator_steps.specs.Actions.{front, last, label, local, Check, Action, need, refuse, take, give, take_any, take_reference, take_comparable, make_non_null, choose, stop, turn_to_else, leave, take_below, convert, enter, turn_to_catch, find_outside, find_caught, set, branch_on_null, branch_to_one_of}
-use Rattle.wasm_operator_steps.specs.Shapes.{Shape, plain, ending, opening, closing, turning, dropping, choosing, never, testing_null, asserting_non_null, branching_on_null, branching_on_non_null, branching_by_table, setting, giving_back, measuring, comparing, converting, catching, delegating, rethrowing, one, shape_of}
+use Rattle.wasm_operator_steps.specs.Actions.{front, last, label, local, Check, Action, need, refuse, take, give, take_any, take_reference, take_comparable, make_non_null, choose, stop, turn_to_else, leave, take_below, convert, describe, enter, turn_to_catch, find_outside, find_caught, set, branch_on_null, branch_to_one_of}
+use Rattle.wasm_operator_steps.specs.Shapes.{Shape, plain, ending, opening, closing, turning, dropping, choosing, never, testing_null, asserting_non_null, branching_on_null, branching_on_non_null, branching_by_table, setting, giving_back, measuring, comparing, converting, describing, catching, delegating, rethrowing, one, shape_of}
 use Rattle.wasm_operator_steps.specs.Meanings.{has_default, run}
 
 -- the actions behind these checks
@@ -36,6 +36,7 @@ actions_of (giving_back x) = take (local x) ∷ set x ∷ give (local x) ∷ []
 actions_of (measuring cs k t) = checked cs (take_below k ∷ give t ∷ [])
 actions_of (comparing cs t) = checked cs (take_comparable ∷ give t ∷ [])
 actions_of (converting cs j k) = checked cs (convert j k ∷ [])
+actions_of (describing cs n) = checked cs (describe n ∷ [])
 actions_of (catching cs t k) = checked cs (turn_to_catch t k ∷ [])
 actions_of (delegating cs l) = checked cs (find_outside l ∷ leave ∷ [])
 actions_of (rethrowing cs l) = checked cs (find_caught l ∷ stop ∷ [])

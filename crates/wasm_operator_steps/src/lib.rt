@@ -4,6 +4,7 @@
 #![tactic(auto)]
 
 ghost use Rattle.wasm_operator_steps.specs.Laws.{LegacyNeedsFeatures, StepsRename, OperatorsAreOptIn, ClausesAreLimited, NumericShapesByOpcode, VerdictsRename, ConstantsGiveReferences, WorldsAreRight};
+ghost use Rattle.wasm_operator_steps.specs.Served.{UnservedTakeNone};
 ghost use Rattle.wasm_operator_steps.specs.LegacyExamples.{Tries, NoTries, TriesNeedFeatures};
 ghost use Rattle.wasm_operator_steps.specs.StackLaws.{ListsAreTakenInTurn, TakingKeepsFrames, TypesAreTakenInTurn, UnreachedCodeTakesAnything, EqualTypesMatch, EqualTypesMatchInContexts, ActionsAreRunInTurn};
 ghost use Rattle.wasm_operator_steps.specs.ControlExamples.{Blocks, NoBlocks, Branches, NoBranches, Calls, NoCalls, Exceptions, NoExceptions, Parametrics, NoParametrics, Variables, NoVariables, ControlNeedsFeatures, Constants, NoConstants, ConstantInstructions, NoConstantInstructions};
@@ -12,7 +13,10 @@ ghost use Rattle.wasm_operator_steps.specs.FormExamples.{Vectors, NoVectors, Ato
 ghost use Rattle.wasm_operator_steps.specs.SharedExamples.{ReachesGlobalsAndTables, ReachesFunctions, ReachesStructures, ReachesArrays, ReachesTheRest};
 
 // What the definitions here speak of, for the crates that stand on them.
-pub use wasm_operators::{BlockType, FrameKind};
+pub use wasm_operators::operators_atomic::{
+    Access, SharedAtomicOperator, SharedForm, shared_code, shared_form,
+};
+pub use wasm_operators::{AccessValues, BlockType, FrameKind};
 
 /// Steps over other identities of types are the same steps with each identity renamed, where the
 /// renaming keeps which are the same.
@@ -21,11 +25,18 @@ pub fn steps_rename<R, S>()
     ensures renamed { StepsRename R S }
 {}
 
-/// Without a feature that they need, no step by an operator on vectors is taken, and none by an atomic
-/// operator.
+/// Without a feature that they need, no step by an operator on vectors is taken, none by an atomic
+/// operator, and none by an operator of a proposal beyond the standard: of wide arithmetic and
+/// `memory.discard`, on descriptors, on what may be shared, and on continuations.
 #[tactic(auto, using(crate::proofs::OptIn::operators_are_opt_in))]
 pub fn operators_are_opt_in<R>()
     ensures opt_in { OperatorsAreOptIn R }
+{}
+
+/// No step is taken by an operator that the features don't serve, and no constant expression has one.
+#[tactic(auto, using(crate::proofs::OptIn::unserved_take_none))]
+pub fn unserved_take_none<R>()
+    ensures { UnservedTakeNone R }
 {}
 
 /// Where the limits of `crate_limits` are asked for, no step is taken by a `try_table` of more than

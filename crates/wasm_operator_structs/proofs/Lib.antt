@@ -1,3 +1,4 @@
 pub mod Defaulting
 pub mod Filling
 pub mod Structures
+pub mod Sharing

@@ -8,7 +8,7 @@ use Rattle.wasm_readers.specs.WasmReadersErrors.declared.error.Error.TheVariants
 use Rattle.wasm_readers.specs.WasmReadersErrors.declared.error.Fault.{Fault}
 use Rattle.wasm_readers.specs.WasmReadersErrors.declared.error.Fault.TheVariants as fault
 use Rattle.wasm_readers.specs.WasmReadersErrors.declared.error.Refusal.{Refusal}
-use Rattle.wasm_readers.specs.WasmReadersErrors.declared.operator_rules.OperatorRule.TheVariants as rule
+use Rattle.wasm_readers.specs.WasmReadersErrors.WasmReadersFeatures.declared.operator_rules.OperatorRule.TheVariants as rule
 use Rattle.wasm_readers_types.specs.WasmReadersValues.declared.indices.UnpackedIndex.{UnpackedIndex}
 use Rattle.wasm_operator_blocks.specs.WasmOperatorChecks.Told.{is_operand, TellsRule, TellsError}
 use Rattle.wasm_operator_blocks.specs.WasmOperatorChecks.declared.faults.OperatorError.{OperatorError}

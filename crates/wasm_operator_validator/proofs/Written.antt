@@ -7,7 +7,7 @@ use Rattle.wasm_operator_blocks.specs.WasmOperatorChecks.WasmValidatorResources.
 use Rattle.wasm_operators.specs.Control as control
 use Rattle.wasm_operators.specs.Control.{Block, empty_block, value_block, func_block, Control}
 use Rattle.wasm_operators.specs.Legacy.{Legacy, try_, catch_, rethrow, delegate, catch_all}
-use Rattle.wasm_operators.specs.References.{Reference, ref_null, ref_is_null, ref_eq, ref_as_non_null, ref_func, br_on_null, br_on_non_null, Cast, ref_test, ref_cast, br_on_cast, br_on_cast_fail}
+use Rattle.wasm_operators.specs.References.{Reference, ref_null, ref_is_null, ref_eq, ref_as_non_null, ref_func, br_on_null, br_on_non_null, Cast, ref_test, ref_cast, br_on_cast, br_on_cast_fail, ref_get_desc, ref_cast_desc_eq, br_on_cast_desc_eq, br_on_cast_desc_eq_fail}
 use Rattle.wasm_operators.specs.Instructions as instruction
 use Rattle.wasm_operators.specs.Instructions.{Instruction, instruction_at}
 use Rattle.wasm_operators.specs.Maps.{map_instruction}
@@ -71,6 +71,10 @@ reference_written (br_on_non_null l) = tt
 cast_written : (op : Cast ℕ) → Is (instruction.cast op)
 cast_written (ref_test q) = heap_written q.heap
 cast_written (ref_cast q) = heap_written q.heap
+cast_written (ref_get_desc x) = tt
+cast_written (ref_cast_desc_eq q) = heap_written q.heap
+cast_written (br_on_cast_desc_eq l r q) = (heap_written r.heap, heap_written q.heap)
+cast_written (br_on_cast_desc_eq_fail l r q) = (heap_written r.heap, heap_written q.heap)
 cast_written (br_on_cast l r q) = (heap_written r.heap, heap_written q.heap)
 cast_written (br_on_cast_fail l r q) = (heap_written r.heap, heap_written q.heap)
 
@@ -93,6 +97,9 @@ all_written (instruction.structure op) = tt
 all_written (instruction.array op) = tt
 all_written (instruction.vector op values) = tt
 all_written (instruction.atomic op values) = tt
+all_written (instruction.wide op) = tt
+all_written (instruction.shared op values) = tt
+all_written (instruction.continuation op) = tt
 
 abbrev as_written : Instruction ℕ × List ℕ → Instruction UnpackedIndex × List ℕ
 as_written x = (map_instruction written x.0, x.1)

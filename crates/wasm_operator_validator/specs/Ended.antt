@@ -5,7 +5,7 @@ use Rattle.wasm_readers.specs.WasmReadersErrors.Refusals.{plain}
 use Rattle.wasm_readers.specs.WasmReadersErrors.declared.error.Error.{Error}
 use Rattle.wasm_readers.specs.WasmReadersErrors.declared.error.Error.TheVariants as error
 use Rattle.wasm_readers.specs.WasmReadersErrors.declared.error.Fault.TheVariants as fault
-use Rattle.wasm_readers.specs.WasmReadersErrors.declared.operator_rules.OperatorRule.TheVariants as rule
+use Rattle.wasm_readers.specs.WasmReadersErrors.WasmReadersFeatures.declared.operator_rules.OperatorRule.TheVariants as rule
 use Rattle.wasm_readers_types.specs.WasmReadersValues.declared.indices.UnpackedIndex.{UnpackedIndex}
 use Rattle.wasm_operator_blocks.specs.WasmOperatorChecks.declared.faults.OperatorError.{OperatorError}
 use Rattle.wasm_operator_blocks.specs.WasmOperatorChecks.declared.faults.OperatorError.TheVariants.{Refused}

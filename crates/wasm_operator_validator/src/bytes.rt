@@ -15,11 +15,11 @@ use crate::seldom::{is_seldom, next_seldom};
 use crate::steps::step;
 use crate::validator::OperatorValidator;
 use std::alloc::Allocator;
+use wasm_operator_arity::read_served;
 use wasm_operator_blocks::operator_checks::OperatorError;
 use wasm_operator_blocks::operator_stacks::Stacks;
 use wasm_operator_blocks::validator_resources::WasmModuleResources;
 use wasm_operator_fast::{NotTaken, fast_step};
-use wasm_operators::read_operator;
 use wasm_readers::BinaryReader;
 use wasm_readers::readers_errors::Error;
 
@@ -175,7 +175,7 @@ impl<A: Allocator> OperatorValidator<A> {
         self.fast_op(resources, reader)
     }
 
-    /// Reads the next operator, and takes its step: [`wasm_operators::read_operator`] and then
+    /// Reads the next operator, and takes its step: [`read_served`] and then
     /// [`OperatorValidator::op`].
     ///
     /// # Errors
@@ -204,7 +204,7 @@ impl<A: Allocator> OperatorValidator<A> {
         ensures place { IfErr result (StandsIn reader.old) }
     {
         let offset = reader.original_position();
-        let op = match read_operator(reader) {
+        let op = match read_served(reader, *self.features()) {
             Ok(op) => op,
             Err(refusal) => {
                 self.fail();

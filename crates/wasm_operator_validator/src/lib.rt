@@ -17,8 +17,10 @@ pub use queries::Frame;
 pub use steps::step;
 pub use validator::{OperatorValidator, OperatorValidatorAllocations};
 pub use visitor::OperatorVisitor;
-pub use wasm_operator_arity::{FrameStack, ModuleArity, counts_are_lengths, operator_arity};
+pub use wasm_operator_arity::{
+    FrameStack, ModuleArity, counts_are_lengths, operator_arity, read_served,
+};
 pub use wasm_operator_blocks::operator_checks::{OperatorError, OperatorFault};
-pub use wasm_operator_blocks::operator_stacks::{Operand, TypeWord, Word};
+pub use wasm_operator_blocks::operator_stacks::{MAX_LOCALS, Operand, TypeWord, Word};
 pub use wasm_operator_fast::NotTaken;
 pub use written_types::{is_written_operator, is_written_type};

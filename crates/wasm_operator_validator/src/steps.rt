@@ -10,11 +10,11 @@ use wasm_operator_blocks::operator_checks::{OperatorError, OperatorFault, Operat
 use wasm_operator_blocks::operator_stacks::Stacks;
 use wasm_operator_blocks::validator_resources::WasmModuleResources;
 use wasm_operator_blocks::{step_call, step_control, step_legacy, step_parametric, step_variable};
-use wasm_operator_casts::{step_cast, step_conversion, step_reference};
+use wasm_operator_casts::{step_cast, step_continuation, step_conversion, step_reference};
 use wasm_operator_fast::operator_numbers::{
-    access_memory, bulk_memory, compute, constant, step_atomic, step_table, step_vector,
+    access_memory, bulk_memory, compute, constant, step_atomic, step_table, step_vector, step_wide,
 };
-use wasm_operator_structs::step_struct;
+use wasm_operator_structs::{step_shared, step_struct};
 use wasm_operators::Operator;
 use wasm_operators::operators_plain::{numeric_signature, saturating_signature};
 
@@ -57,5 +57,8 @@ pub fn step<'a, A: Allocator, T: WasmModuleResources>(
         Operator::Array(op) => step_array(stacks, resources, op),
         Operator::Vector(op, values) => step_vector(stacks, resources, op, values),
         Operator::Atomic(op, values) => step_atomic(stacks, resources, op, values),
+        Operator::Wide(op) => step_wide(stacks, resources, op),
+        Operator::Continuation(op) => step_continuation(stacks, resources, op),
+        Operator::Shared(op, values) => step_shared(stacks, resources, op, values),
     }
 }

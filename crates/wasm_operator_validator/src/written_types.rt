@@ -2,34 +2,17 @@
 //! those that they are given. What is read of bytes does; what is made otherwise is asked here.
 
 ghost use Rattle.std.specs.Bool.{Decides};
-ghost use Rattle.wasm_readers_types.specs.WasmReadersValues.SeenValues.{heap_of, val_of};
+ghost use Rattle.wasm_readers_types.specs.WasmReadersValues.SeenValues.{val_of};
 ghost use Rattle.wasm_operators.specs.SeenControl.{block_of, control_of};
 ghost use Rattle.wasm_operators.specs.SeenLegacy.{legacy_of};
-ghost use Rattle.wasm_operators.specs.SeenReferences.{reference_of, cast_of};
 ghost use Rattle.wasm_operators.specs.SeenOperators.{operator_of};
-ghost use Rattle.wasm_operator_blocks.specs.WasmOperatorChecks.WasmValidatorResources.Answers.{IsWrittenHeap, IsWrittenVal};
+ghost use Rattle.wasm_operator_blocks.specs.WasmOperatorChecks.WasmValidatorResources.Answers.{IsWrittenVal};
 ghost use Rattle.wasm_operator_blocks.specs.Written.{IsWrittenBlock, IsWrittenControl, IsWrittenLegacy};
-ghost use Rattle.wasm_operator_casts.specs.WrittenReferences.{IsWrittenReference};
-ghost use Rattle.wasm_operator_casts.specs.Written.{IsWrittenCast};
 ghost use Rattle.wasm_operator_validator.specs.Stepped.{IsWrittenInstruction};
 
-use wasm_operators::{
-    BlockType, CastOperator, ControlOperator, LegacyOperator, Operator, ReferenceOperator,
-};
-use wasm_readers_types::{HeapType, UnpackedIndex, ValType};
-
-/// Whether an index in this heap type, if there is one, is a type index of a module.
-fn is_written_heap(ty: HeapType) -> bool
-    ensures { Decides result (IsWrittenHeap (heap_of ty)) }
-{
-    match ty {
-        HeapType::Abstract { shared: _, ty: _ } => true,
-        HeapType::Concrete(UnpackedIndex::Module(_)) => true,
-        HeapType::Concrete(UnpackedIndex::RecGroup(_) | UnpackedIndex::Id(_)) => false,
-        HeapType::Exact(UnpackedIndex::Module(_)) => true,
-        HeapType::Exact(UnpackedIndex::RecGroup(_) | UnpackedIndex::Id(_)) => false,
-    }
-}
+use wasm_operator_casts::{is_written_cast, is_written_heap, is_written_reference};
+use wasm_operators::{BlockType, ControlOperator, LegacyOperator, Operator};
+use wasm_readers_types::ValType;
 
 /// Whether an index in this type, if there is one, is a type index of a module, and neither a
 /// position in a recursion group nor the id of a type in a list.
@@ -69,36 +52,6 @@ fn is_written_legacy(op: LegacyOperator) -> bool
     match op {
         LegacyOperator::Try { blockty } => is_written_block(blockty),
         _ => true,
-    }
-}
-
-fn is_written_reference(op: ReferenceOperator) -> bool
-    ensures { Decides result (IsWrittenReference (reference_of op)) }
-{
-    match op {
-        ReferenceOperator::RefNull { hty } => is_written_heap(hty),
-        _ => true,
-    }
-}
-
-fn is_written_cast(op: CastOperator) -> bool
-    ensures { Decides result (IsWrittenCast (cast_of op)) }
-{
-    match op {
-        CastOperator::RefTestNonNull { hty }
-        | CastOperator::RefTestNullable { hty }
-        | CastOperator::RefCastNonNull { hty }
-        | CastOperator::RefCastNullable { hty } => is_written_heap(hty),
-        CastOperator::BrOnCast {
-            relative_depth: _,
-            from_ref_type,
-            to_ref_type,
-        } => is_written_heap(from_ref_type.heap_type()) && is_written_heap(to_ref_type.heap_type()),
-        CastOperator::BrOnCastFail {
-            relative_depth: _,
-            from_ref_type,
-            to_ref_type,
-        } => is_written_heap(from_ref_type.heap_type()) && is_written_heap(to_ref_type.heap_type()),
     }
 }
 

@@ -2,8 +2,8 @@
 use Rattle.std.proofs.Common.{◌≡◌, sym, ap, ◌∙◌, subst, ℕ, zero, suc, ◌-◌, ◌≤◌, List, [], ◌++◌, length, take, Option, Some, None, option_map, append_assoc, length-append, arith}
 use Rattle.std.proofs.Math.Seq.{take-append_seam}
 use Rattle.std.specs.Option.{option_and_then}
-use Rattle.wasm_operators_plain.specs.WasmSpec.Laws.{ReadingGoesOn, ReadingIgnoresWhatFollows}
-use Rattle.wasm_operators_plain.proofs.WasmSpec.Front.{IsRest, IsRest-trans, Reads}
+use Rattle.wasm_operators_proposals.specs.WasmOperatorsPlain.WasmSpec.Laws.{ReadingGoesOn, ReadingIgnoresWhatFollows}
+use Rattle.wasm_operators_proposals.proofs.WasmOperatorsPlain.WasmSpec.Front.{IsRest, IsRest-trans, Reads}
 use Rattle.wasm_operators.specs.Instructions.{Instruction, instruction_at}
 use Rattle.wasm_operators.specs.Expressions.{nesting_of, depth_after, go_on, behind_from, behind_expression, expression_at}
 use Rattle.wasm_operators.specs.Laws.{ExpressionIsFront}

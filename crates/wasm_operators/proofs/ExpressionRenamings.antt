@@ -1,7 +1,7 @@
 -- An expression is the same bytes whatever type indices stand for.
 use Rattle.std.proofs.Common.{◌≡◌, refl, ap, ◌∙◌, ℕ, zero, suc, List, length, Option, Some, None, option_map}
 use Rattle.wasm_operators.specs.Control.{Control, unreachable, nop, else_, end_, throw_ref, return_, block, loop, if_, try_table, throw, br, br_if, br_table}
-use Rattle.wasm_operators.specs.Instructions.{Instruction, control, legacy, call, parametric, variable, table, access, memory, constant, numeric, saturating, reference, cast, conversion, structure, array, vector, atomic, instruction_at}
+use Rattle.wasm_operators.specs.Instructions.{Instruction, control, legacy, call, parametric, variable, table, access, memory, constant, numeric, saturating, reference, cast, conversion, structure, array, vector, atomic, wide, shared, continuation, instruction_at}
 use Rattle.wasm_operators.specs.Expressions.{nesting_of, nesting_of_control, nesting_of_legacy, depth_after, go_on, behind_from, behind_expression, expression_at}
 use Rattle.wasm_operators.specs.Maps.{map_control, map_legacy, map_instruction}
 use Rattle.wasm_operators.specs.Legacy.{Legacy, try_, catch_, rethrow, delegate, catch_all}
@@ -57,6 +57,9 @@ module _ {R S : Type 0} (f : R → S) (to : ℕ → R) where
   nesting-same (array op) = refl
   nesting-same (vector op i) = refl
   nesting-same (atomic op i) = refl
+  nesting-same (wide op) = refl
+  nesting-same (shared op i) = refl
+  nesting-same (continuation op) = refl
 
   abbrev renamed : ℕ → S
   renamed n = f (to n)

@@ -2,28 +2,36 @@
 -- only that.
 use Rattle.std.proofs.Common.{ℕ, nat_lt, ◌==◌, List, [], ◌∷◌, ◌++◌, Bool, true, false, Option, Some, None}
 use Rattle.std.specs.Prelude.{is_some}
-use Rattle.wasm_operators_plain.specs.WasmSpec.Values.{byte_at, u32_at, s33_index_at, not_negative}
-use Rattle.wasm_operators_plain.specs.WasmSpec.BinaryTypes.{val_at}
-use Rattle.wasm_operators_plain.proofs.WasmSpec.Front.{Reads, reads_none, reads_here, reads_value, reads_behind, reads_weaken, reads_if, reads_map, reads_then, reads_list, signed-reads, heap-reads, val-reads}
-use Rattle.wasm_operators_plain.specs.Numeric.{numeric_from, saturating_from}
-use Rattle.wasm_operators_plain.specs.Memories.{access_from}
-use Rattle.wasm_operators_plain.specs.Conversions.{conversion_from, shared_from}
-use Rattle.wasm_operators_plain.specs.declared.memories.MemoryOperator.{MemoryOperator}
-use Rattle.wasm_operators_plain.proofs.Fronts.{u32-reads, one_index-reads, two_indices-reads, memarg-reads, call-reads, variable-reads, table_access-reads, table-reads, memory_size-reads, memory-reads, constant-reads, bits_128-reads, vector-reads, struct-reads, array-reads}
+use Rattle.wasm_operators_proposals.specs.WasmOperatorsPlain.WasmSpec.Values.{byte_at, u32_at, s33_index_at, not_negative}
+use Rattle.wasm_operators_proposals.specs.WasmOperatorsPlain.WasmSpec.BinaryTypes.{val_at}
+use Rattle.wasm_operators_proposals.proofs.WasmOperatorsPlain.WasmSpec.Front.{Reads, reads_none, reads_here, reads_value, reads_behind, reads_weaken, reads_if, reads_map, reads_then, reads_list, signed-reads, heap-reads, val-reads}
+use Rattle.wasm_operators_proposals.specs.WasmOperatorsPlain.Numeric.{numeric_from, saturating_from}
+use Rattle.wasm_operators_proposals.specs.WasmOperatorsAtomic.Wide.{wide_from}
+use Rattle.wasm_operators_proposals.specs.WasmOperatorsPlain.Memories.{access_from}
+use Rattle.wasm_operators_proposals.specs.WasmOperatorsPlain.Conversions.{conversion_from, shared_from}
+use Rattle.wasm_operators_proposals.specs.WasmOperatorsPlain.declared.memories.MemoryOperator.{MemoryOperator}
+use Rattle.wasm_operators_proposals.proofs.WasmOperatorsPlain.Fronts.{u32-reads, one_index-reads, two_indices-reads, memarg-reads, call-reads, variable-reads, table_access-reads, table-reads, memory_size-reads, memory-reads, constant-reads, bits_128-reads, vector-reads, struct-reads, array-reads}
 use Rattle.wasm_operators.specs.References.{cast_flags_from, cast_flags_at, branch_at, reference_from, cast_from}
 use Rattle.wasm_operators.specs.Control.{catch_at, br_table_at, try_table_at, block_at, control_from, parametric_from}
-use Rattle.wasm_operators_plain.specs.declared.memories.MemArg.{MemArg}
-use Rattle.wasm_operators_atomic.specs.WasmOperatorsVector.Codes as vectors
-use Rattle.wasm_operators_atomic.specs.WasmOperatorsVector.Forms as vector_forms
-use Rattle.wasm_operators_atomic.specs.WasmOperatorsVector.declared.forms.Immediates.{Immediates}
-use Rattle.wasm_operators_atomic.specs.WasmOperatorsVector.declared.forms.Immediates.TheVariants as form
-use Rattle.wasm_operators_atomic.specs.WasmOperatorsVector.declared.forms.Form.{Form}
-use Rattle.wasm_operators_atomic.specs.WasmOperatorsVector.declared.forms.Form.TheVariants.{Compute, Access}
-use Rattle.wasm_operators_atomic.specs.Codes as atomics
-use Rattle.wasm_operators_atomic.specs.Forms as atomic_forms
+use Rattle.wasm_operators_proposals.specs.WasmOperatorsPlain.declared.memories.MemArg.{MemArg}
+use Rattle.wasm_operators_proposals.specs.WasmOperatorsAtomic.WasmOperatorsVector.Codes as vectors
+use Rattle.wasm_operators_proposals.specs.WasmOperatorsAtomic.WasmOperatorsVector.Forms as vector_forms
+use Rattle.wasm_operators_proposals.specs.WasmOperatorsAtomic.WasmOperatorsVector.declared.forms.Immediates.{Immediates}
+use Rattle.wasm_operators_proposals.specs.WasmOperatorsAtomic.WasmOperatorsVector.declared.forms.Immediates.TheVariants as form
+use Rattle.wasm_operators_proposals.specs.WasmOperatorsAtomic.WasmOperatorsVector.declared.forms.Form.{Form}
+use Rattle.wasm_operators_proposals.specs.WasmOperatorsAtomic.WasmOperatorsVector.declared.forms.Form.TheVariants.{Compute, Access}
+use Rattle.wasm_operators_proposals.specs.WasmOperatorsAtomic.Codes as atomics
+use Rattle.wasm_operators_proposals.specs.WasmOperatorsAtomic.Forms as atomic_forms
 use Rattle.wasm_operators.specs.declared.immediates.ImmediateValues.{ImmediateValues}
 use Rattle.wasm_operators.specs.FormImmediates.{zero_at, values_at, behind_memarg, place_at, immediates_at}
-use Rattle.wasm_operators.specs.Instructions.{with_memarg, with_form, aggregate_from, bulk_from, vectors_from, atomics_from, prefixed_from, plain_from, instruction_at}
+use Rattle.wasm_operators_proposals.specs.WasmOperatorsAtomic.SharedCodes as shareds
+use Rattle.wasm_operators_proposals.specs.WasmOperatorsAtomic.SharedForms as shared_forms
+use Rattle.wasm_operators_proposals.specs.WasmOperatorsAtomic.declared.shared.SharedAtomicOperator.{SharedAtomicOperator}
+use Rattle.wasm_operators_proposals.specs.WasmOperatorsAtomic.declared.shared_forms.SharedForm.{SharedForm}
+use Rattle.wasm_operators_proposals.specs.WasmOperatorsAtomic.declared.shared_forms.SharedForm.TheVariants as shared_form
+use Rattle.wasm_operators.specs.WasmOperatorsProposals.declared.accesses.Ordering.{Ordering}
+use Rattle.wasm_operators_proposals.specs.Accesses.{ordering_from, ordering_at, field_behind, place_of, access_values_at}
+use Rattle.wasm_operators.specs.Instructions.{with_memarg, with_form, with_access, is_shared, aggregate_from, bulk_from, vectors_from, atomics_from, prefixed_from, plain_from, instruction_at}
 use Rattle.wasm_operators.specs.Legacy.{legacy_from}
 
 module _ {more : List ℕ} where
@@ -75,6 +83,30 @@ module _ {more : List ℕ} where
   with_form-reads : {X Y : Type 0} (op : X → ImmediateValues → Y) (form : X → Form) (found : Option X) (bytes : List ℕ) → Reads more 0 bytes (with_form op form bytes found) (with_form op form (bytes ++ more) found)
   with_form-reads op form None bytes = reads_none
   with_form-reads op form (Some x) bytes = reads_map _ (immediates-reads (form x) bytes)
+
+  -- immediates of atomic accesses
+  ordering-reads : (bytes : List ℕ) → Reads more 1 bytes (ordering_at bytes) (ordering_at (bytes ++ more))
+  ordering-reads bytes = reads_then _ (u32-reads bytes) (λ n. reads_value (λ o. o) (ordering_from n.0))
+
+  field-reads : (has_field : Bool) (o : Ordering) (x : ℕ) (bytes : List ℕ) → Reads more 0 bytes (field_behind has_field o x bytes) (field_behind has_field o x (bytes ++ more))
+  field-reads true o x bytes = reads_weaken (reads_map _ (u32-reads bytes))
+  field-reads false o x bytes = reads_here
+
+  place-reads : (has_field : Bool) (bytes : List ℕ) → Reads more 0 bytes (place_of has_field bytes) (place_of has_field (bytes ++ more))
+  place-reads has_field bytes = reads_weaken (reads_then _ (ordering-reads bytes) (λ o. reads_then _ (u32-reads o.1) (λ x. field-reads has_field o.0 x.0 x.1)))
+
+  access_values-reads : (f : SharedForm) (bytes : List ℕ) → Reads more 0 bytes (access_values_at f bytes) (access_values_at f (bytes ++ more))
+  access_values-reads shared_form.Pause bytes = reads_here
+  access_values-reads (shared_form.Global a) bytes = place-reads false bytes
+  access_values-reads (shared_form.Table a) bytes = place-reads false bytes
+  access_values-reads (shared_form.Field a) bytes = place-reads true bytes
+  access_values-reads shared_form.PackedField bytes = place-reads true bytes
+  access_values-reads (shared_form.Element a) bytes = place-reads false bytes
+  access_values-reads shared_form.PackedElement bytes = place-reads false bytes
+
+  with_access-reads : {R : Type 0} (found : Option SharedAtomicOperator) (bytes : List ℕ) → Reads more 0 bytes (with_access {R = R} bytes found) (with_access {R = R} (bytes ++ more) found)
+  with_access-reads None bytes = reads_none
+  with_access-reads (Some op) bytes = reads_map _ (access_values-reads (shared_forms.shared_form_of op) bytes)
 
   module _ {R : Type 0} (to : ℕ → R) where
     block-reads : (bytes : List ℕ) → Reads more 1 bytes (block_at to bytes) (block_at to (bytes ++ more))
@@ -156,7 +188,9 @@ module _ {more : List ℕ} where
         (reads_if (n == 23) (reads_weaken (reads_map _ (heap-reads to bytes)))
         (reads_if (n == 24) (reads_weaken (reads_map _ (branch-reads bytes)))
         (reads_if (n == 25) (reads_weaken (reads_map _ (branch-reads bytes)))
-        reads_none)))))
+        (reads_if (n == 35) (reads_weaken (reads_map _ (heap-reads to bytes)))
+        (reads_if (n == 36) (reads_weaken (reads_map _ (heap-reads to bytes)))
+        reads_none)))))))
 
     aggregate-reads : (n : ℕ) (bytes : List ℕ) → Reads more 0 bytes (aggregate_from to n bytes) (aggregate_from to n (bytes ++ more))
     unfolding aggregate_from
@@ -165,14 +199,17 @@ module _ {more : List ℕ} where
         (reads_if (nat_lt n 20) (reads_map _ (array-reads n bytes))
         (reads_if (nat_lt n 26) (reads_map _ (cast-reads n bytes))
         (reads_if (nat_lt n 32) (reads_value _ (conversion_from n))
-        (reads_map _ (struct-reads n bytes)))))
+        (reads_if (nat_lt n 34) (reads_map _ (struct-reads n bytes))
+        (reads_map _ (cast-reads n bytes))))))
 
     bulk-reads : (n : ℕ) (bytes : List ℕ) → Reads more 0 bytes (bulk_from to n bytes) (bulk_from to n (bytes ++ more))
     unfolding bulk_from
     bulk-reads n bytes =
         reads_if (nat_lt n 8) (reads_value _ (saturating_from n))
         (reads_if (nat_lt n 12) (reads_map _ (memory-reads n bytes))
-        (reads_map _ (table-reads n bytes)))
+        (reads_if (nat_lt n 18) (reads_map _ (table-reads n bytes))
+        (reads_if (nat_lt n 19) (reads_map _ (memory-reads n bytes))
+        (reads_value _ (wide_from n)))))
 
     vectors-reads : (n : ℕ) (bytes : List ℕ) → Reads more 0 bytes (vectors_from to n bytes) (vectors_from to n (bytes ++ more))
     unfolding vectors_from
@@ -184,7 +221,8 @@ module _ {more : List ℕ} where
     unfolding atomics_from
     atomics-reads n bytes =
         reads_if (n == 0x72) (reads_value _ (shared_from n))
-        (with_form-reads _ atomic_forms.form_of (atomics.operator_from n) bytes)
+        (reads_if (is_shared n) (with_access-reads (shareds.shared_operator_from n) bytes)
+        (with_form-reads _ atomic_forms.form_of (atomics.operator_from n) bytes))
 
     plain-reads : (b : ℕ) (bytes : List ℕ) → Reads more 0 bytes (plain_from to b bytes) (plain_from to b (bytes ++ more))
     unfolding plain_from

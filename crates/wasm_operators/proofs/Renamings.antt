@@ -1,30 +1,35 @@
 -- Reading with a renamed index map gives what reading gives, renamed.
 use Rattle.std.proofs.Common.{refl, ℕ, nat_lt, ◌==◌, List, Option, Some, None}
-use Rattle.wasm_operators_plain.specs.WasmSpec.Values.{byte_at, u32_at, s33_index_at, list_at}
-use Rattle.wasm_operators_plain.proofs.WasmSpec.Renaming.{Renames, renames_none, renames_some, renames_if, renames_then, renames_map, renames_same_then, renames_same_map, renames_list, heap-renames, val-renames}
-use Rattle.wasm_operators_plain.specs.Numeric.{numeric_from, saturating_from}
-use Rattle.wasm_operators_plain.specs.Calls.{call_from}
-use Rattle.wasm_operators_plain.specs.Variables.{variable_from}
-use Rattle.wasm_operators_plain.specs.Tables.{table_access_from, table_from}
-use Rattle.wasm_operators_plain.specs.Memories.{access_from, memarg_at, memory_size_from, memory_from}
-use Rattle.wasm_operators_plain.specs.Constants.{constant_from, vector_from}
-use Rattle.wasm_operators_plain.specs.Structs.{struct_from}
-use Rattle.wasm_operators_plain.specs.Arrays.{array_from}
-use Rattle.wasm_operators_plain.specs.Conversions.{conversion_from, shared_from}
+use Rattle.wasm_operators_proposals.specs.WasmOperatorsPlain.WasmSpec.Values.{byte_at, u32_at, s33_index_at, list_at}
+use Rattle.wasm_operators_proposals.proofs.WasmOperatorsPlain.WasmSpec.Renaming.{Renames, renames_none, renames_some, renames_if, renames_then, renames_map, renames_same_then, renames_same_map, renames_list, heap-renames, val-renames}
+use Rattle.wasm_operators_proposals.specs.WasmOperatorsPlain.Numeric.{numeric_from, saturating_from}
+use Rattle.wasm_operators_proposals.specs.WasmOperatorsAtomic.Wide.{wide_from}
+use Rattle.wasm_operators_proposals.specs.WasmOperatorsPlain.Calls.{call_from}
+use Rattle.wasm_operators_proposals.specs.WasmOperatorsPlain.Variables.{variable_from}
+use Rattle.wasm_operators_proposals.specs.WasmOperatorsPlain.Tables.{table_access_from, table_from}
+use Rattle.wasm_operators_proposals.specs.WasmOperatorsPlain.Memories.{access_from, memarg_at, memory_size_from, memory_from}
+use Rattle.wasm_operators_proposals.specs.WasmOperatorsPlain.Constants.{constant_from, vector_from}
+use Rattle.wasm_operators_proposals.specs.WasmOperatorsPlain.Structs.{struct_from}
+use Rattle.wasm_operators_proposals.specs.WasmOperatorsPlain.Arrays.{array_from}
+use Rattle.wasm_operators_proposals.specs.WasmOperatorsPlain.Conversions.{conversion_from, shared_from}
 use Rattle.wasm_operators.specs.References.{cast_flags_at, branch_at, reference_from, cast_from}
 use Rattle.wasm_operators.specs.Control.{catch_at, br_table_at, try_table_at, block_at, control_from, parametric_from}
-use Rattle.wasm_operators_atomic.specs.WasmOperatorsVector.Codes as vectors
-use Rattle.wasm_operators_atomic.specs.WasmOperatorsVector.Forms as vector_forms
-use Rattle.wasm_operators_atomic.specs.WasmOperatorsVector.declared.forms.Form.{Form}
-use Rattle.wasm_operators_atomic.specs.WasmOperatorsVector.declared.operators.VectorOperator.{VectorOperator}
-use Rattle.wasm_operators_atomic.specs.Codes as atomics
-use Rattle.wasm_operators_atomic.specs.Forms as atomic_forms
-use Rattle.wasm_operators_atomic.specs.declared.operators.AtomicOperator.{AtomicOperator}
+use Rattle.wasm_operators_proposals.specs.WasmOperatorsAtomic.WasmOperatorsVector.Codes as vectors
+use Rattle.wasm_operators_proposals.specs.WasmOperatorsAtomic.WasmOperatorsVector.Forms as vector_forms
+use Rattle.wasm_operators_proposals.specs.WasmOperatorsAtomic.WasmOperatorsVector.declared.forms.Form.{Form}
+use Rattle.wasm_operators_proposals.specs.WasmOperatorsAtomic.WasmOperatorsVector.declared.operators.VectorOperator.{VectorOperator}
+use Rattle.wasm_operators_proposals.specs.WasmOperatorsAtomic.Codes as atomics
+use Rattle.wasm_operators_proposals.specs.WasmOperatorsAtomic.Forms as atomic_forms
+use Rattle.wasm_operators_proposals.specs.WasmOperatorsAtomic.declared.operators.AtomicOperator.{AtomicOperator}
 use Rattle.wasm_operators.specs.FormImmediates.{immediates_at}
-use Rattle.wasm_operators.specs.Instructions.{vector, atomic, with_memarg, with_form, aggregate_from, bulk_from, vectors_from, atomics_from, prefixed_from, plain_from, instruction_at}
+use Rattle.wasm_operators_proposals.specs.WasmOperatorsAtomic.SharedCodes as shareds
+use Rattle.wasm_operators_proposals.specs.WasmOperatorsAtomic.SharedForms as shared_forms
+use Rattle.wasm_operators_proposals.specs.WasmOperatorsAtomic.declared.shared.SharedAtomicOperator.{SharedAtomicOperator}
+use Rattle.wasm_operators_proposals.specs.Accesses.{access_values_at}
+use Rattle.wasm_operators.specs.Instructions.{vector, atomic, with_memarg, with_form, with_access, is_shared, aggregate_from, bulk_from, vectors_from, atomics_from, prefixed_from, plain_from, instruction_at}
 use Rattle.wasm_operators.specs.Maps.{map_block, map_control, map_legacy, map_parametric, map_reference, map_cast, map_instruction, map_try_table, map_branch}
 use Rattle.wasm_operators.specs.Legacy.{legacy_from}
-use Rattle.wasm_operators_plain.specs.declared.memories.MemoryOperator.{MemoryOperator}
+use Rattle.wasm_operators_proposals.specs.WasmOperatorsPlain.declared.memories.MemoryOperator.{MemoryOperator}
 
 module _ {R S : Type 0} (f : R → S) (to : ℕ → R) where
   abbrev then_renamed : ℕ → S
@@ -60,6 +65,10 @@ module _ {R S : Type 0} (f : R → S) (to : ℕ → R) where
   atomic-renames : (found : Option AtomicOperator) (bytes : List ℕ) → Renames (map_instruction f) (with_form atomic atomic_forms.form_of bytes found) (with_form atomic atomic_forms.form_of bytes found)
   atomic-renames None bytes = renames_none
   atomic-renames (Some op) bytes = renames_same_map (immediates_at (atomic_forms.form_of op) bytes) _ _ (λ i. refl)
+
+  access-renames : (found : Option SharedAtomicOperator) (bytes : List ℕ) → Renames (map_instruction f) (with_access bytes found) (with_access bytes found)
+  access-renames None bytes = renames_none
+  access-renames (Some op) bytes = renames_same_map (access_values_at (shared_forms.shared_form_of op) bytes) _ _ (λ i. refl)
 
   control-renames : (b : ℕ) (bytes : List ℕ) → Renames (map_control f) (control_from to b bytes) (control_from then_renamed b bytes)
   unfolding control_from
@@ -119,7 +128,9 @@ module _ {R S : Type 0} (f : R → S) (to : ℕ → R) where
       (renames_if (n == 23) (renames_map _ _ (heap-renames f to bytes) (λ x. refl))
       (renames_if (n == 24) (renames_map _ _ (branch-renames bytes) (λ x. refl))
       (renames_if (n == 25) (renames_map _ _ (branch-renames bytes) (λ x. refl))
-      renames_none)))))
+      (renames_if (n == 35) (renames_map _ _ (heap-renames f to bytes) (λ x. refl))
+      (renames_if (n == 36) (renames_map _ _ (heap-renames f to bytes) (λ x. refl))
+      renames_none)))))))
 
   aggregate-renames : (n : ℕ) (bytes : List ℕ) → Renames (map_instruction f) (aggregate_from to n bytes) (aggregate_from then_renamed n bytes)
   unfolding aggregate_from
@@ -128,14 +139,17 @@ module _ {R S : Type 0} (f : R → S) (to : ℕ → R) where
       (renames_if (nat_lt n 20) (renames_same_map (array_from n bytes) _ _ (λ x. refl))
       (renames_if (nat_lt n 26) (renames_map _ _ (cast-renames n bytes) (λ x. refl))
       (renames_if (nat_lt n 32) (renames_same_map (conversion_from n) _ _ (λ x. refl))
-      (renames_same_map (struct_from n bytes) _ _ (λ x. refl)))))
+      (renames_if (nat_lt n 34) (renames_same_map (struct_from n bytes) _ _ (λ x. refl))
+      (renames_map _ _ (cast-renames n bytes) (λ x. refl))))))
 
   bulk-renames : (n : ℕ) (bytes : List ℕ) → Renames (map_instruction f) (bulk_from to n bytes) (bulk_from then_renamed n bytes)
   unfolding bulk_from
   bulk-renames n bytes =
       renames_if (nat_lt n 8) (renames_same_map (saturating_from n) _ _ (λ x. refl))
       (renames_if (nat_lt n 12) (renames_same_map (memory_from n bytes) _ _ (λ x. refl))
-      (renames_same_map (table_from n bytes) _ _ (λ x. refl)))
+      (renames_if (nat_lt n 18) (renames_same_map (table_from n bytes) _ _ (λ x. refl))
+      (renames_if (nat_lt n 19) (renames_same_map (memory_from n bytes) _ _ (λ x. refl))
+      (renames_same_map (wide_from n) _ _ (λ x. refl)))))
 
   vectors-renames : (n : ℕ) (bytes : List ℕ) → Renames (map_instruction f) (vectors_from to n bytes) (vectors_from then_renamed n bytes)
   unfolding vectors_from
@@ -143,7 +157,7 @@ module _ {R S : Type 0} (f : R → S) (to : ℕ → R) where
 
   atomics-renames : (n : ℕ) (bytes : List ℕ) → Renames (map_instruction f) (atomics_from to n bytes) (atomics_from then_renamed n bytes)
   unfolding atomics_from
-  atomics-renames n bytes = renames_if (n == 0x72) (renames_same_map (shared_from n) _ _ (λ x. refl)) (atomic-renames (atomics.operator_from n) bytes)
+  atomics-renames n bytes = renames_if (n == 0x72) (renames_same_map (shared_from n) _ _ (λ x. refl)) (renames_if (is_shared n) (access-renames (shareds.shared_operator_from n) bytes) (atomic-renames (atomics.operator_from n) bytes))
 
   plain-renames : (b : ℕ) (bytes : List ℕ) → Renames (map_instruction f) (plain_from to b bytes) (plain_from then_renamed b bytes)
   unfolding plain_from

@@ -1,8 +1,8 @@
 -- What reading of an expression keeps.
 use Rattle.std.proofs.Common.{◌≡◌, ◌≤◌, ◌<◌, ◌+◌, ◌-◌, ◌∙◌, refl, sym, ap, ℕ, zero, suc, Bool, true, false, cond, eqb, List, length, Option, Some, None, arith}
 use Rattle.std.proofs.lemmas.List.{length-drop}
-use Rattle.wasm_operators_plain.specs.WasmReaders.WasmReadersBytes.Reader.{SameInput, input, position_in, rest}
-use Rattle.wasm_operators_plain.specs.WasmReaders.WasmReadersBytes.declared.binary_reader.BinaryReader.{BinaryReader}
+use Rattle.wasm_operators_proposals.specs.WasmOperatorsPlain.WasmReaders.WasmReadersBytes.Reader.{SameInput, input, position_in, rest}
+use Rattle.wasm_operators_proposals.specs.WasmOperatorsPlain.WasmReaders.WasmReadersBytes.declared.binary_reader.BinaryReader.{BinaryReader}
 use Rattle.wasm_operators.specs.Instructions.{Instruction, instruction_at}
 use Rattle.wasm_operators.specs.Expressions.{nesting_of, depth_after, behind_from}
 use Rattle.wasm_operators.specs.declared.expressions.Nesting.{Nesting}

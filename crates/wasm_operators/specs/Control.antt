@@ -2,10 +2,10 @@
 -- taken together with their bodies: `else` and `end` stand for themselves. A type index x in a type is read as `to x`.
 use Rattle.std.specs.Prelude.{ℕ, ◌==◌, nat_lt, if◌then◌else◌, List, Option, Some, None}
 use Rattle.std.specs.Option.{option_map, option_and_then}
-use Rattle.wasm_operators_plain.specs.WasmSpec.Syntax.{Val}
-use Rattle.wasm_operators_plain.specs.WasmSpec.Values.{byte_at, u32_at, s33_index_at, list_at}
-use Rattle.wasm_operators_plain.specs.WasmSpec.BinaryTypes.{val_at}
-use Rattle.wasm_operators_plain.specs.Immediates.{alone, one_index, two_indices}
+use Rattle.wasm_operators_proposals.specs.WasmOperatorsPlain.WasmSpec.Syntax.{Val}
+use Rattle.wasm_operators_proposals.specs.WasmOperatorsPlain.WasmSpec.Values.{byte_at, u32_at, s33_index_at, list_at}
+use Rattle.wasm_operators_proposals.specs.WasmOperatorsPlain.WasmSpec.BinaryTypes.{val_at}
+use Rattle.wasm_operators_proposals.specs.WasmOperatorsPlain.Immediates.{alone, one_index, two_indices}
 use Rattle.wasm_operators.specs.declared.control.Catch.{Catch}
 use Rattle.wasm_operators.specs.declared.control.Catch.TheVariants.{One, OneRef, All, AllRef}
 

@@ -3,14 +3,14 @@
 -- Atomic Memory Instructions.
 use Rattle.std.specs.Prelude.{ℕ, ◌==◌, if◌then◌else◌, Bool, true, false, List, Option, Some, None, is_some}
 use Rattle.std.specs.Option.{option_map, option_and_then}
-use Rattle.wasm_operators_plain.specs.WasmSpec.Values.{byte_at}
-use Rattle.wasm_operators_plain.specs.Memories.{memarg_at}
-use Rattle.wasm_operators_plain.specs.Constants.{bits_128_at}
-use Rattle.wasm_operators_plain.specs.declared.memories.MemArg.{MemArg}
-use Rattle.wasm_operators_atomic.specs.WasmOperatorsVector.declared.forms.Immediates.{Immediates}
-use Rattle.wasm_operators_atomic.specs.WasmOperatorsVector.declared.forms.Immediates.TheVariants as form
-use Rattle.wasm_operators_atomic.specs.WasmOperatorsVector.declared.forms.Form.{Form}
-use Rattle.wasm_operators_atomic.specs.WasmOperatorsVector.declared.forms.Form.TheVariants.{Compute, Access}
+use Rattle.wasm_operators_proposals.specs.WasmOperatorsPlain.WasmSpec.Values.{byte_at}
+use Rattle.wasm_operators_proposals.specs.WasmOperatorsPlain.Memories.{memarg_at}
+use Rattle.wasm_operators_proposals.specs.WasmOperatorsPlain.Constants.{bits_128_at}
+use Rattle.wasm_operators_proposals.specs.WasmOperatorsPlain.declared.memories.MemArg.{MemArg}
+use Rattle.wasm_operators_proposals.specs.WasmOperatorsAtomic.WasmOperatorsVector.declared.forms.Immediates.{Immediates}
+use Rattle.wasm_operators_proposals.specs.WasmOperatorsAtomic.WasmOperatorsVector.declared.forms.Immediates.TheVariants as form
+use Rattle.wasm_operators_proposals.specs.WasmOperatorsAtomic.WasmOperatorsVector.declared.forms.Form.{Form}
+use Rattle.wasm_operators_proposals.specs.WasmOperatorsAtomic.WasmOperatorsVector.declared.forms.Form.TheVariants.{Compute, Access}
 use Rattle.wasm_operators.specs.declared.immediates.ImmediateValues.{ImmediateValues}
 use Rattle.wasm_operators.specs.declared.immediates.ImmediateValues.TheVariants.{Nothing, Lane, Lanes, MemArg as ArgAlone, MemArgLane}
 

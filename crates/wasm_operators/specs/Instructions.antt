@@ -1,40 +1,48 @@
 -- Core Specification 3.0, Binary Format, Instructions: one instruction at the front of the bytes. Blocks are not taken together
 -- with their bodies. A type index x in a type is read as what it stands for, `to x`.
-use Rattle.std.specs.Prelude.{ℕ, ◌==◌, nat_lt, if◌then◌else◌, List, Option, Some, None}
+use Rattle.std.specs.Prelude.{ℕ, ◌==◌, ◌||◌, nat_le, nat_lt, if◌then◌else◌, Bool, List, Option, Some, None}
 use Rattle.std.specs.Option.{option_map, option_and_then}
-use Rattle.wasm_operators_plain.specs.WasmSpec.Values.{byte_at, u32_at}
+use Rattle.wasm_operators_proposals.specs.WasmOperatorsPlain.WasmSpec.Values.{byte_at, u32_at}
 use Rattle.wasm_operators.specs.Control.{Control, Parametric, control_from, parametric_from}
 use Rattle.wasm_operators.specs.Legacy.{Legacy, legacy_from}
-use Rattle.wasm_operators_plain.specs.Calls.{call_from}
-use Rattle.wasm_operators_plain.specs.Variables.{variable_from}
-use Rattle.wasm_operators_plain.specs.Tables.{table_access_from, table_from}
-use Rattle.wasm_operators_plain.specs.Memories.{access_from, memarg_at, memory_size_from, memory_from}
-use Rattle.wasm_operators_plain.specs.Constants.{constant_from, vector_from}
-use Rattle.wasm_operators_plain.specs.Numeric.{numeric_from, saturating_from}
+use Rattle.wasm_operators_proposals.specs.WasmOperatorsPlain.Calls.{call_from}
+use Rattle.wasm_operators_proposals.specs.WasmOperatorsPlain.Variables.{variable_from}
+use Rattle.wasm_operators_proposals.specs.WasmOperatorsPlain.Tables.{table_access_from, table_from}
+use Rattle.wasm_operators_proposals.specs.WasmOperatorsPlain.Memories.{access_from, memarg_at, memory_size_from, memory_from}
+use Rattle.wasm_operators_proposals.specs.WasmOperatorsPlain.Constants.{constant_from, vector_from}
+use Rattle.wasm_operators_proposals.specs.WasmOperatorsPlain.Numeric.{numeric_from, saturating_from}
+use Rattle.wasm_operators_proposals.specs.WasmOperatorsAtomic.Wide.{wide_from}
+use Rattle.wasm_operators.specs.Continuations.{Continuation, continuation_from}
 use Rattle.wasm_operators.specs.References.{Reference, Cast, reference_from, cast_from}
-use Rattle.wasm_operators_plain.specs.Conversions.{conversion_from, shared_from}
-use Rattle.wasm_operators_plain.specs.Structs.{struct_from}
-use Rattle.wasm_operators_plain.specs.Arrays.{array_from}
-use Rattle.wasm_operators_plain.specs.declared.calls.CallOperator.{CallOperator}
-use Rattle.wasm_operators_plain.specs.declared.variables.VariableOperator.{VariableOperator}
-use Rattle.wasm_operators_plain.specs.declared.tables.TableOperator.{TableOperator}
-use Rattle.wasm_operators_plain.specs.declared.memories.MemoryOperator.{MemoryOperator}
-use Rattle.wasm_operators_plain.specs.declared.memories.MemArg.{MemArg}
-use Rattle.wasm_operators_plain.specs.declared.memories.BulkMemoryOperator.{BulkMemoryOperator}
-use Rattle.wasm_operators_plain.specs.declared.constants.ConstantOperator.{ConstantOperator}
-use Rattle.wasm_operators_plain.specs.declared.numeric.NumericOperator.{NumericOperator}
-use Rattle.wasm_operators_plain.specs.declared.numeric.SaturatingOperator.{SaturatingOperator}
-use Rattle.wasm_operators_plain.specs.declared.conversions.ConversionOperator.{ConversionOperator}
-use Rattle.wasm_operators_plain.specs.declared.structs.StructOperator.{StructOperator}
-use Rattle.wasm_operators_plain.specs.declared.arrays.ArrayOperator.{ArrayOperator}
-use Rattle.wasm_operators_atomic.specs.WasmOperatorsVector.Codes as vectors
-use Rattle.wasm_operators_atomic.specs.WasmOperatorsVector.Forms as vector_forms
-use Rattle.wasm_operators_atomic.specs.WasmOperatorsVector.declared.forms.Form.{Form}
-use Rattle.wasm_operators_atomic.specs.WasmOperatorsVector.declared.operators.VectorOperator.{VectorOperator}
-use Rattle.wasm_operators_atomic.specs.Codes as atomics
-use Rattle.wasm_operators_atomic.specs.Forms as atomic_forms
-use Rattle.wasm_operators_atomic.specs.declared.operators.AtomicOperator.{AtomicOperator}
+use Rattle.wasm_operators_proposals.specs.WasmOperatorsPlain.Conversions.{conversion_from, shared_from}
+use Rattle.wasm_operators_proposals.specs.WasmOperatorsPlain.Structs.{struct_from}
+use Rattle.wasm_operators_proposals.specs.WasmOperatorsPlain.Arrays.{array_from}
+use Rattle.wasm_operators_proposals.specs.WasmOperatorsPlain.declared.calls.CallOperator.{CallOperator}
+use Rattle.wasm_operators_proposals.specs.WasmOperatorsPlain.declared.variables.VariableOperator.{VariableOperator}
+use Rattle.wasm_operators_proposals.specs.WasmOperatorsPlain.declared.tables.TableOperator.{TableOperator}
+use Rattle.wasm_operators_proposals.specs.WasmOperatorsPlain.declared.memories.MemoryOperator.{MemoryOperator}
+use Rattle.wasm_operators_proposals.specs.WasmOperatorsPlain.declared.memories.MemArg.{MemArg}
+use Rattle.wasm_operators_proposals.specs.WasmOperatorsPlain.declared.memories.BulkMemoryOperator.{BulkMemoryOperator}
+use Rattle.wasm_operators_proposals.specs.WasmOperatorsPlain.declared.constants.ConstantOperator.{ConstantOperator}
+use Rattle.wasm_operators_proposals.specs.WasmOperatorsPlain.declared.numeric.NumericOperator.{NumericOperator}
+use Rattle.wasm_operators_proposals.specs.WasmOperatorsPlain.declared.numeric.SaturatingOperator.{SaturatingOperator}
+use Rattle.wasm_operators_proposals.specs.WasmOperatorsPlain.declared.conversions.ConversionOperator.{ConversionOperator}
+use Rattle.wasm_operators_proposals.specs.WasmOperatorsPlain.declared.structs.StructOperator.{StructOperator}
+use Rattle.wasm_operators_proposals.specs.WasmOperatorsPlain.declared.arrays.ArrayOperator.{ArrayOperator}
+use Rattle.wasm_operators_proposals.specs.WasmOperatorsAtomic.declared.wide.WideOperator.{WideOperator}
+use Rattle.wasm_operators_proposals.specs.WasmOperatorsAtomic.WasmOperatorsVector.Codes as vectors
+use Rattle.wasm_operators_proposals.specs.WasmOperatorsAtomic.WasmOperatorsVector.Forms as vector_forms
+use Rattle.wasm_operators_proposals.specs.WasmOperatorsAtomic.WasmOperatorsVector.declared.forms.Form.{Form}
+use Rattle.wasm_operators_proposals.specs.WasmOperatorsAtomic.WasmOperatorsVector.declared.operators.VectorOperator.{VectorOperator}
+use Rattle.wasm_operators_proposals.specs.WasmOperatorsAtomic.Codes as atomics
+use Rattle.wasm_operators_proposals.specs.WasmOperatorsAtomic.Forms as atomic_forms
+use Rattle.wasm_operators_proposals.specs.WasmOperatorsAtomic.declared.operators.AtomicOperator.{AtomicOperator}
+use Rattle.wasm_operators_proposals.specs.WasmOperatorsAtomic.SharedCodes as shareds
+use Rattle.wasm_operators_proposals.specs.WasmOperatorsAtomic.SharedForms as shared_forms
+use Rattle.wasm_operators_proposals.specs.WasmOperatorsAtomic.declared.shared.SharedAtomicOperator.{SharedAtomicOperator}
 use Rattle.wasm_operators.specs.FormImmediates.{immediates_at}
+use Rattle.wasm_operators_proposals.specs.Accesses.{access_values_at}
+use Rattle.wasm_operators.specs.WasmOperatorsProposals.declared.accesses.AccessValues.{AccessValues}
 use Rattle.wasm_operators.specs.declared.immediates.ImmediateValues.{ImmediateValues}
 
 -- the instructions by family
@@ -57,6 +65,9 @@ pub data Instruction (R : Type 0) : Type 0 where
   array : ArrayOperator → Instruction R
   vector : VectorOperator → ImmediateValues → Instruction R
   atomic : AtomicOperator → ImmediateValues → Instruction R
+  wide : WideOperator → Instruction R
+  shared : SharedAtomicOperator → AccessValues → Instruction R
+  continuation : Continuation → Instruction R
 
 -- what was read of a family, as an instruction
 abbrev pub of_family : {X Y : Type 0} → (X → Y) → Option (X × List ℕ) → Option (Y × List ℕ)
@@ -76,6 +87,15 @@ abbrev pub with_form : {X Y : Type 0} → (X → ImmediateValues → Y) → (X �
 with_form op form bytes None = None
 with_form op form bytes (Some x) = option_map (λ i. (op x i.0, i.1)) (immediates_at (form x) bytes)
 
+-- an atomic access to a global, a table, a structure or an array, or `pause`, and its immediates
+abbrev pub with_access : {R : Type 0} → List ℕ → Option SharedAtomicOperator → Option (Instruction R × List ℕ)
+with_access bytes None = None
+with_access bytes (Some x) = option_map (λ v. (shared x v.0, v.1)) (access_values_at (shared_forms.shared_form_of x) bytes)
+
+-- the numbers behind the prefix fe of `pause` and from the first of these accesses on
+abbrev pub is_shared : ℕ → Bool
+is_shared n = (n == 4) || nat_le 0x4f n
+
 module _ {R : Type 0} (to : ℕ → R) where
   -- behind the prefix fb
   unfoldable pub aggregate_from : ℕ → List ℕ → Option (Instruction R × List ℕ)
@@ -84,14 +104,17 @@ module _ {R : Type 0} (to : ℕ → R) where
       else (if nat_lt n 20 then of_family array (array_from n bytes)
       else (if nat_lt n 26 then of_family cast (cast_from to n bytes)
       else (if nat_lt n 32 then with_nothing conversion bytes (conversion_from n)
-      else of_family structure (struct_from n bytes))))
+      else (if nat_lt n 34 then of_family structure (struct_from n bytes)
+      else of_family cast (cast_from to n bytes)))))
 
   -- behind the prefix fc
   unfoldable pub bulk_from : ℕ → List ℕ → Option (Instruction R × List ℕ)
   bulk_from n bytes =
       if nat_lt n 8 then with_nothing saturating bytes (saturating_from n)
       else (if nat_lt n 12 then of_family memory (memory_from n bytes)
-      else of_family table (table_from n bytes))
+      else (if nat_lt n 18 then of_family table (table_from n bytes)
+      else (if nat_lt n 19 then of_family memory (memory_from n bytes)
+      else with_nothing wide bytes (wide_from n))))
 
   -- behind the prefix fd
   unfoldable pub vectors_from : ℕ → List ℕ → Option (Instruction R × List ℕ)
@@ -103,7 +126,8 @@ module _ {R : Type 0} (to : ℕ → R) where
   unfoldable pub atomics_from : ℕ → List ℕ → Option (Instruction R × List ℕ)
   atomics_from n bytes =
       if n == 0x72 then with_nothing conversion bytes (shared_from n)
-      else with_form atomic atomic_forms.form_of bytes (atomics.operator_from n)
+      else (if is_shared n then with_access bytes (shareds.shared_operator_from n)
+      else with_form atomic atomic_forms.form_of bytes (atomics.operator_from n))
 
   -- behind a prefix from fb on
   unfoldable pub prefixed_from : ℕ → ℕ → List ℕ → Option (Instruction R × List ℕ)
@@ -132,7 +156,8 @@ module _ {R : Type 0} (to : ℕ → R) where
       else (if nat_lt b 0x41 then of_family memory (memory_size_from b bytes)
       else (if nat_lt b 0x45 then of_family constant (constant_from b bytes)
       else (if nat_lt b 0xd0 then with_nothing numeric bytes (numeric_from b)
-      else of_family reference (reference_from to b bytes)))))))))))))))
+      else (if nat_lt b 0xe0 then of_family reference (reference_from to b bytes)
+      else of_family continuation (continuation_from b bytes))))))))))))))))
 
   -- by the first byte, which may be a prefix of a number
   abbrev pub instruction_from : ℕ → List ℕ → Option (Instruction R × List ℕ)

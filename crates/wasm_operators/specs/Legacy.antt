@@ -2,7 +2,7 @@
 -- Blocks are not taken together with their bodies. A type index x in a type is read as `to x`.
 use Rattle.std.specs.Prelude.{ℕ, ◌==◌, if◌then◌else◌, List, Option, None}
 use Rattle.std.specs.Option.{option_map}
-use Rattle.wasm_operators_plain.specs.Immediates.{alone, one_index}
+use Rattle.wasm_operators_proposals.specs.WasmOperatorsPlain.Immediates.{alone, one_index}
 use Rattle.wasm_operators.specs.Control.{Block, block_at}
 
 -- a tag follows `catch`, and a label `rethrow` and `delegate`

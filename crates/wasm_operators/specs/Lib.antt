@@ -1,11 +1,14 @@
-pub use Rattle.wasm_operators_plain.specs as WasmOperatorsPlain
+pub use Rattle.wasm_operators_proposals.specs.WasmOperatorsPlain as WasmOperatorsPlain
 pub mod References
 pub mod SeenReferences
-pub mod SeenLists
+pub use Rattle.wasm_operators_proposals.specs.SeenLists as SeenLists
 pub mod Control
 pub mod SeenControl
-pub use Rattle.wasm_operators_atomic.specs as WasmOperatorsAtomic
+pub use Rattle.wasm_operators_proposals.specs.WasmOperatorsAtomic as WasmOperatorsAtomic
 pub mod FormImmediates
+pub use Rattle.wasm_operators_proposals.specs.Continuations as Continuations
+pub use Rattle.wasm_operators_proposals.specs.SeenContinuations as SeenContinuations
+pub use Rattle.wasm_operators_proposals.specs as WasmOperatorsProposals
 pub mod Legacy
 pub mod SeenLegacy
 pub mod Instructions

@@ -1,10 +1,10 @@
 -- Each reference in the types of an instruction renamed.
 use Rattle.std.specs.Prelude.{ℕ, List, map}
-use Rattle.wasm_operators_plain.specs.WasmSpec.Syntax.{Ref, map_heap, map_ref, map_val}
+use Rattle.wasm_operators_proposals.specs.WasmOperatorsPlain.WasmSpec.Syntax.{Ref, map_heap, map_ref, map_val}
 use Rattle.wasm_operators.specs.Control.{Block, empty_block, value_block, func_block, Control, unreachable, nop, else_, end_, throw_ref, return_, block, loop, if_, try_table, throw, br, br_if, br_table, Parametric, drop_, select, select_of}
 use Rattle.wasm_operators.specs.Legacy.{Legacy, try_, catch_, rethrow, delegate, catch_all}
-use Rattle.wasm_operators.specs.References.{Reference, ref_null, ref_is_null, ref_eq, ref_as_non_null, ref_func, br_on_null, br_on_non_null, Cast, ref_test, ref_cast, br_on_cast, br_on_cast_fail}
-use Rattle.wasm_operators.specs.Instructions.{Instruction, control, legacy, call, parametric, variable, table, access, memory, constant, numeric, saturating, reference, cast, conversion, structure, array, vector, atomic}
+use Rattle.wasm_operators.specs.References.{Reference, ref_null, ref_is_null, ref_eq, ref_as_non_null, ref_func, br_on_null, br_on_non_null, Cast, ref_test, ref_cast, br_on_cast, br_on_cast_fail, ref_get_desc, ref_cast_desc_eq, br_on_cast_desc_eq, br_on_cast_desc_eq_fail}
+use Rattle.wasm_operators.specs.Instructions.{Instruction, control, legacy, call, parametric, variable, table, access, memory, constant, numeric, saturating, reference, cast, conversion, structure, array, vector, atomic, wide, shared, continuation}
 use Rattle.wasm_operators.specs.declared.control.Catch.{Catch}
 
 module _ {R S : Type 0} (f : R → S) where
@@ -61,6 +61,10 @@ module _ {R S : Type 0} (f : R → S) where
   map_cast (ref_cast t) = ref_cast (map_ref f t)
   map_cast (br_on_cast l a b) = br_on_cast l (map_ref f a) (map_ref f b)
   map_cast (br_on_cast_fail l a b) = br_on_cast_fail l (map_ref f a) (map_ref f b)
+  map_cast (ref_get_desc x) = ref_get_desc x
+  map_cast (ref_cast_desc_eq t) = ref_cast_desc_eq (map_ref f t)
+  map_cast (br_on_cast_desc_eq l a b) = br_on_cast_desc_eq l (map_ref f a) (map_ref f b)
+  map_cast (br_on_cast_desc_eq_fail l a b) = br_on_cast_desc_eq_fail l (map_ref f a) (map_ref f b)
 
   abbrev pub map_instruction : Instruction R → Instruction S
   map_instruction (control op) = control (map_control op)
@@ -81,3 +85,6 @@ module _ {R S : Type 0} (f : R → S) where
   map_instruction (array op) = array op
   map_instruction (vector op i) = vector op i
   map_instruction (atomic op i) = atomic op i
+  map_instruction (wide op) = wide op
+  map_instruction (shared op i) = shared op i
+  map_instruction (continuation op) = continuation op

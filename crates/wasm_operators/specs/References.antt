@@ -2,20 +2,24 @@
 -- references. A type index x is read as what it stands for, `to x`.
 use Rattle.std.specs.Prelude.{ℕ, Bool, true, false, ◌==◌, if◌then◌else◌, List, Option, Some, None}
 use Rattle.std.specs.Option.{option_map, option_and_then}
-use Rattle.wasm_operators_plain.specs.WasmSpec.Syntax.{Heap, Ref}
-use Rattle.wasm_operators_plain.specs.WasmSpec.Values.{byte_at, u32_at}
-use Rattle.wasm_operators_plain.specs.WasmSpec.BinaryTypes.{heap_at}
-use Rattle.wasm_operators_plain.specs.Immediates.{alone, one_index}
+use Rattle.wasm_operators_proposals.specs.WasmOperatorsPlain.WasmSpec.Syntax.{Heap, Ref}
+use Rattle.wasm_operators_proposals.specs.WasmOperatorsPlain.WasmSpec.Values.{byte_at, u32_at}
+use Rattle.wasm_operators_proposals.specs.WasmOperatorsPlain.WasmSpec.BinaryTypes.{heap_at}
+use Rattle.wasm_operators_proposals.specs.WasmOperatorsPlain.Immediates.{alone, one_index}
 
 pub data Reference (R : Type 0) : Type 0 where
   ref_null : Heap R → Reference R
   ref_is_null ref_eq ref_as_non_null : Reference R
   ref_func br_on_null br_on_non_null : ℕ → Reference R
 
--- Tests and casts to a type; and branches on a cast, with a label, the type of the operand and the type that it is cast to.
+-- Tests and casts to a type; and branches on a cast, with a label, the type of the operand and the type that it is cast to. By the proposal
+-- for custom descriptors: the descriptor of a reference to a type of an index, and casts and branches by a descriptor.
 pub data Cast (R : Type 0) : Type 0 where
   ref_test ref_cast : Ref R → Cast R
   br_on_cast br_on_cast_fail : ℕ → Ref R → Ref R → Cast R
+  ref_get_desc : ℕ → Cast R
+  ref_cast_desc_eq : Ref R → Cast R
+  br_on_cast_desc_eq br_on_cast_desc_eq_fail : ℕ → Ref R → Ref R → Cast R
 
 -- a reference type
 abbrev pub reference_to : {R : Type 0} → Bool → Heap R → Ref R
@@ -64,6 +68,16 @@ module _ {R : Type 0} (to : ℕ → R) where
   abbrev pub cast_branch : (ℕ → Ref R → Ref R → Cast R) → List ℕ → Option (Cast R × List ℕ)
   cast_branch op bytes = option_map (λ x. (op x.0.0 x.0.1 x.0.2, x.1)) (branch_at bytes)
 
+  -- the descriptor of a reference, and casts by descriptors, by their number behind the prefix fb
+  unfoldable pub described_from : ℕ → List ℕ → Option (Cast R × List ℕ)
+  described_from n bytes =
+      if n == 34 then one_index ref_get_desc bytes
+      else (if n == 35 then one_type ref_cast_desc_eq false bytes
+      else (if n == 36 then one_type ref_cast_desc_eq true bytes
+      else (if n == 37 then cast_branch br_on_cast_desc_eq bytes
+      else (if n == 38 then cast_branch br_on_cast_desc_eq_fail bytes
+      else None))))
+
   -- casts by their number behind the prefix fb
   unfoldable pub cast_from : ℕ → List ℕ → Option (Cast R × List ℕ)
   cast_from n bytes =
@@ -73,4 +87,4 @@ module _ {R : Type 0} (to : ℕ → R) where
       else (if n == 23 then one_type ref_cast true bytes
       else (if n == 24 then cast_branch br_on_cast bytes
       else (if n == 25 then cast_branch br_on_cast_fail bytes
-      else None)))))
+      else described_from n bytes)))))

@@ -1,10 +1,10 @@
 -- What contracts see of control and parametric operators.
 use Rattle.std.specs.Prelude.{ℕ, List}
-use Rattle.wasm_operators_plain.specs.WasmSpec.Values.{u32_at}
-use Rattle.wasm_operators_plain.specs.WasmSpec.BinaryTypes.{val_at}
-use Rattle.wasm_operators_plain.specs.WasmReaders.Written.{written}
-use Rattle.wasm_operators_plain.specs.WasmReadersTypes.WasmReadersValues.SeenValues.{val_of}
-use Rattle.wasm_operators_plain.specs.WasmReadersTypes.WasmReadersValues.declared.indices.UnpackedIndex.{UnpackedIndex}
+use Rattle.wasm_operators_proposals.specs.WasmOperatorsPlain.WasmSpec.Values.{u32_at}
+use Rattle.wasm_operators_proposals.specs.WasmOperatorsPlain.WasmSpec.BinaryTypes.{val_at}
+use Rattle.wasm_operators_proposals.specs.WasmOperatorsPlain.WasmReaders.Written.{written}
+use Rattle.wasm_operators_proposals.specs.WasmOperatorsPlain.WasmReadersTypes.WasmReadersValues.SeenValues.{val_of}
+use Rattle.wasm_operators_proposals.specs.WasmOperatorsPlain.WasmReadersTypes.WasmReadersValues.declared.indices.UnpackedIndex.{UnpackedIndex}
 use Rattle.wasm_operators.specs.Control as syntax
 use Rattle.wasm_operators.specs.Control.{Block, Control, Parametric, catch_at}
 use Rattle.wasm_operators.specs.SeenLists.{listed}

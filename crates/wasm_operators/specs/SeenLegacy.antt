@@ -1,5 +1,5 @@
 -- What contracts see of the operators of legacy exceptions.
-use Rattle.wasm_operators_plain.specs.WasmReadersTypes.WasmReadersValues.declared.indices.UnpackedIndex.{UnpackedIndex}
+use Rattle.wasm_operators_proposals.specs.WasmOperatorsPlain.WasmReadersTypes.WasmReadersValues.declared.indices.UnpackedIndex.{UnpackedIndex}
 use Rattle.wasm_operators.specs.Legacy as syntax
 use Rattle.wasm_operators.specs.Legacy.{Legacy}
 use Rattle.wasm_operators.specs.SeenControl.{block_of}

@@ -1,9 +1,10 @@
 -- What contracts see of an operator.
-use Rattle.wasm_operators_plain.specs.WasmReadersTypes.WasmReadersValues.declared.indices.UnpackedIndex.{UnpackedIndex}
+use Rattle.wasm_operators_proposals.specs.WasmOperatorsPlain.WasmReadersTypes.WasmReadersValues.declared.indices.UnpackedIndex.{UnpackedIndex}
 use Rattle.wasm_operators.specs.Instructions as syntax
 use Rattle.wasm_operators.specs.Instructions.{Instruction}
 use Rattle.wasm_operators.specs.SeenControl.{control_of, parametric_of}
 use Rattle.wasm_operators.specs.SeenLegacy.{legacy_of}
+use Rattle.wasm_operators.specs.SeenContinuations.{continuation_of}
 use Rattle.wasm_operators.specs.SeenReferences.{reference_of, cast_of}
 use Rattle.wasm_operators.specs.declared.operators.Operator.{Operator}
 use Rattle.wasm_operators.specs.declared.operators.Operator.TheVariants as operator
@@ -27,3 +28,6 @@ operator_of (operator.Struct op) = syntax.structure op
 operator_of (operator.Array op) = syntax.array op
 operator_of (operator.Vector op values) = syntax.vector op values
 operator_of (operator.Atomic op values) = syntax.atomic op values
+operator_of (operator.Wide op) = syntax.wide op
+operator_of (operator.Continuation op) = syntax.continuation (continuation_of op)
+operator_of (operator.Shared op values) = syntax.shared op values

@@ -1,20 +1,20 @@
 //! Control operators, calls aside, and parametric operators.
 
 ghost use Rattle.std.specs.Prelude.{◌≡◌, ◌≤◌, ◌<◌, ◌+◌, Some, None, IfOk, IfErr, OnOk, OnErr};
-ghost use Rattle.wasm_operators_plain.specs.WasmSpec.Values.{list_at};
-ghost use Rattle.wasm_operators_plain.specs.WasmSpec.BinaryTypes.{val_at};
-ghost use Rattle.wasm_operators_plain.specs.WasmReaders.WasmReadersBytes.Reader.{SameInput, position_in, original, rest, RefusedFrom};
-ghost use Rattle.wasm_operators_plain.specs.WasmReaders.Written.{written};
-ghost use Rattle.wasm_operators_plain.specs.Refusals.{RefusedBetween};
+ghost use Rattle.wasm_operators_proposals.specs.WasmOperatorsPlain.WasmSpec.Values.{list_at};
+ghost use Rattle.wasm_operators_proposals.specs.WasmOperatorsPlain.WasmSpec.BinaryTypes.{val_at};
+ghost use Rattle.wasm_operators_proposals.specs.WasmOperatorsPlain.WasmReaders.WasmReadersBytes.Reader.{SameInput, position_in, original, rest, RefusedFrom};
+ghost use Rattle.wasm_operators_proposals.specs.WasmOperatorsPlain.WasmReaders.Written.{written};
+ghost use Rattle.wasm_operators_proposals.specs.WasmOperatorsPlain.Refusals.{RefusedBetween};
 ghost use Rattle.wasm_operators.specs.Control.{block_at, catch_at, br_table_at, try_table_at, control_from, parametric_from};
 ghost use Rattle.wasm_operators.specs.SeenControl.{block_of, labels_of, catches_of, control_of, parametric_of};
 
-use crate::lists::{Immediate, Listed, read_listed};
-use wasm_operators_plain::readers::BinaryReader;
-use wasm_operators_plain::readers::types::read_val_type;
-use wasm_operators_plain::readers_errors::{Fault, Malformed, Refusal};
-use wasm_operators_plain::readers_types::ValType;
-use wasm_operators_plain::unknown_opcode;
+use wasm_operators_proposals::operators_plain::readers::BinaryReader;
+use wasm_operators_proposals::operators_plain::readers::types::read_val_type;
+use wasm_operators_proposals::operators_plain::readers_errors::{Fault, Malformed, Refusal};
+use wasm_operators_proposals::operators_plain::readers_types::ValType;
+use wasm_operators_proposals::operators_plain::unknown_opcode;
+use wasm_operators_proposals::{Immediate, Listed, read_listed};
 
 /// The type of a block (Core Specification 3.0, Binary Format, Instructions, Control Instructions).
 #[derive(Clone, Copy, PartialEq, Eq, Debug)]
@@ -139,22 +139,6 @@ impl<'a> Immediate<'a> for Catch {
             }),
             _ => Err(Refusal::new(Fault::Malformed(Malformed::CatchKind), offset)),
         }
-    }
-}
-
-impl<'a> Immediate<'a> for ValType {
-    ghost use Rattle.wasm_operators_plain.specs.WasmSpec.Syntax.{Val};
-    ghost use Rattle.wasm_operators_plain.specs.WasmReadersTypes.WasmReadersValues.SeenValues.{val_of};
-    ghost use Rattle.wasm_operators_plain.specs.WasmReadersTypes.WasmReadersValues.declared.indices.UnpackedIndex.{UnpackedIndex};
-
-    ghost Value = { Val UnpackedIndex };
-
-    ghost encoded = { val_at written };
-
-    ghost value = { val_of };
-
-    fn read(reader: &mut BinaryReader<'a>) -> Result<ValType, Refusal> {
-        read_val_type(reader)
     }
 }
 

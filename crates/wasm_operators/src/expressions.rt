@@ -1,16 +1,16 @@
 //! Expressions as their bytes.
 
 ghost use Rattle.std.specs.Prelude.{◌≡◌, ◌≤◌, ◌<◌, ◌+◌, ◌^◌, Some, None, IfOk, IfErr, OnOk, OnErr, length};
-ghost use Rattle.wasm_operators_plain.specs.WasmReaders.WasmReadersBytes.Reader.{SameInput, input, position_in, original, rest, RefusedFrom};
-ghost use Rattle.wasm_operators_plain.specs.WasmReaders.Written.{written};
+ghost use Rattle.wasm_operators_proposals.specs.WasmOperatorsPlain.WasmReaders.WasmReadersBytes.Reader.{SameInput, input, position_in, original, rest, RefusedFrom};
+ghost use Rattle.wasm_operators_proposals.specs.WasmOperatorsPlain.WasmReaders.Written.{written};
 ghost use Rattle.wasm_operators.specs.Expressions.{nesting_of, depth_after, behind_expression, expression_at};
 ghost use Rattle.wasm_operators.specs.SeenOperators.{operator_of};
 
 use crate::control::ControlOperator;
 use crate::legacy::LegacyOperator;
 use crate::operators::{Operator, read_operator};
-use wasm_operators_plain::readers::BinaryReader;
-use wasm_operators_plain::readers_errors::Refusal;
+use wasm_operators_proposals::operators_plain::readers::BinaryReader;
+use wasm_operators_proposals::operators_plain::readers_errors::Refusal;
 
 /// Whether an operator begins a block or ends one.
 #[derive(Clone, Copy, PartialEq, Eq, Debug)]

@@ -1,9 +1,9 @@
 //! The operators that bodies are mostly made of, without refusals.
 
 ghost use Rattle.std.specs.Prelude.{◌≡◌, ◌≤◌, ◌<◌, Some, None, IfSome, OnSome};
-ghost use Rattle.wasm_operators_plain.specs.WasmReaders.WasmReadersBytes.Reader.{SameInput, position_in, rest};
-ghost use Rattle.wasm_operators_plain.specs.WasmReaders.Written.{written};
-ghost use Rattle.wasm_operators_plain.specs.Memories.{memarg_at};
+ghost use Rattle.wasm_operators_proposals.specs.WasmOperatorsPlain.WasmReaders.WasmReadersBytes.Reader.{SameInput, position_in, rest};
+ghost use Rattle.wasm_operators_proposals.specs.WasmOperatorsPlain.WasmReaders.Written.{written};
+ghost use Rattle.wasm_operators_proposals.specs.WasmOperatorsPlain.Memories.{memarg_at};
 ghost use Rattle.wasm_operators.specs.Control.{block_at};
 ghost use Rattle.wasm_operators.specs.Instructions.{plain_from, instruction_at};
 ghost use Rattle.wasm_operators.specs.SeenControl.{block_of};
@@ -11,16 +11,16 @@ ghost use Rattle.wasm_operators.specs.SeenOperators.{operator_of};
 
 use crate::control::{BlockType, ControlOperator, ParametricOperator};
 use crate::operators::Operator;
-use wasm_operators_plain::readers::BinaryReader;
-use wasm_operators_plain::readers_types::ValType;
-use wasm_operators_plain::{
+use wasm_operators_proposals::operators_plain::readers::BinaryReader;
+use wasm_operators_proposals::operators_plain::readers_types::ValType;
+use wasm_operators_proposals::operators_plain::{
     CallOperator, ConstantOperator, MemArg, VariableOperator, access_from_opcode,
     numeric_from_opcode,
 };
 
 /// The memory argument that is next, if it is there and of the first memory.
 #[inline(always)]
-#[tactic(auto, unfolding(wasm_operators_plain::specs::Memories::memarg_at))]
+#[tactic(auto, unfolding(crate::proofs::Cited::memarg_at))]
 fn next_memarg(reader: &mut BinaryReader) -> Option<MemArg>
     ensures same { SameInput reader.old reader.new }
     ensures onward { position_in reader.old ≤ position_in reader.new }

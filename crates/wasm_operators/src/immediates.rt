@@ -1,14 +1,14 @@
 //! The immediates of operators on vectors and of atomic ones, which their forms tell.
 
 ghost use Rattle.std.specs.Prelude.{◌≡◌, ◌≤◌, ◌+◌, Some, None, IfOk, IfErr, OnErr};
-ghost use Rattle.wasm_operators_plain.specs.WasmReaders.WasmReadersBytes.Reader.{SameInput, position_in, original, rest};
-ghost use Rattle.wasm_operators_plain.specs.Refusals.{RefusedBetween};
+ghost use Rattle.wasm_operators_proposals.specs.WasmOperatorsPlain.WasmReaders.WasmReadersBytes.Reader.{SameInput, position_in, original, rest};
+ghost use Rattle.wasm_operators_proposals.specs.WasmOperatorsPlain.Refusals.{RefusedBetween};
 ghost use Rattle.wasm_operators.specs.FormImmediates.{zero_at, values_at, place_at, immediates_at};
 
-use wasm_operators_atomic::operators_vector::{Form, Immediates};
-use wasm_operators_plain::readers::BinaryReader;
-use wasm_operators_plain::readers_errors::{Fault, Malformed, Refusal};
-use wasm_operators_plain::{MemArg, V128, read_bits_128, read_memarg};
+use wasm_operators_proposals::operators_atomic::operators_vector::{Form, Immediates};
+use wasm_operators_proposals::operators_plain::readers::BinaryReader;
+use wasm_operators_proposals::operators_plain::readers_errors::{Fault, Malformed, Refusal};
+use wasm_operators_proposals::operators_plain::{MemArg, V128, read_bits_128, read_memarg};
 
 /// The immediates of an operator on vectors or of an atomic one.
 #[derive(Clone, Copy, PartialEq, Eq, Debug)]

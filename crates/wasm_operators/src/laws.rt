@@ -1,13 +1,13 @@
 //! Laws of the definitions.
 
 ghost use Rattle.std.specs.Prelude.{ℕ};
-ghost use Rattle.wasm_operators_plain.specs.WasmSpec.Laws.{ReadingRenames, ReadingGoesOn, ReadingIgnoresWhatFollows};
+ghost use Rattle.wasm_operators_proposals.specs.WasmOperatorsPlain.WasmSpec.Laws.{ReadingRenames, ReadingGoesOn, ReadingIgnoresWhatFollows};
 ghost use Rattle.wasm_operators.specs.Instructions.{instruction_at};
 ghost use Rattle.wasm_operators.specs.Expressions.{expression_at};
 ghost use Rattle.wasm_operators.specs.Maps.{map_instruction};
 ghost use Rattle.wasm_operators.specs.Laws.{ExpressionIsFront, ReadingIsOfBytes};
 
-pub use wasm_operators_plain::accesses_are_a_table;
+pub use wasm_operators_proposals::operators_plain::accesses_are_a_table;
 
 /// What is read takes at least one byte, and leaves the bytes behind it as they are.
 pub fn reading_goes_on<R>()

@@ -1,16 +1,16 @@
 //! Operators of the legacy exception-handling proposal.
 
 ghost use Rattle.std.specs.Prelude.{◌≡◌, ◌≤◌, ◌+◌, Some, None, IfOk, IfErr, OnErr};
-ghost use Rattle.wasm_operators_plain.specs.WasmReaders.WasmReadersBytes.Reader.{SameInput, position_in, original, rest};
-ghost use Rattle.wasm_operators_plain.specs.WasmReaders.Written.{written};
-ghost use Rattle.wasm_operators_plain.specs.Refusals.{RefusedBetween};
+ghost use Rattle.wasm_operators_proposals.specs.WasmOperatorsPlain.WasmReaders.WasmReadersBytes.Reader.{SameInput, position_in, original, rest};
+ghost use Rattle.wasm_operators_proposals.specs.WasmOperatorsPlain.WasmReaders.Written.{written};
+ghost use Rattle.wasm_operators_proposals.specs.WasmOperatorsPlain.Refusals.{RefusedBetween};
 ghost use Rattle.wasm_operators.specs.Legacy.{legacy_from};
 ghost use Rattle.wasm_operators.specs.SeenLegacy.{legacy_of};
 
 use crate::control::{BlockType, read_block_type};
-use wasm_operators_plain::readers::BinaryReader;
-use wasm_operators_plain::readers_errors::Refusal;
-use wasm_operators_plain::unknown_opcode;
+use wasm_operators_proposals::operators_plain::readers::BinaryReader;
+use wasm_operators_proposals::operators_plain::readers_errors::Refusal;
+use wasm_operators_proposals::operators_plain::unknown_opcode;
 
 /// The operators by which exceptions were handled before references to them (the legacy
 /// exception-handling proposal). Validation asks for `LEGACY_EXCEPTIONS` and `EXCEPTIONS`.

@@ -1,12 +1,14 @@
 //! Operators and their reading.
 
 ghost use Rattle.std.specs.Prelude.{◌≡◌, ◌≤◌, ◌<◌, ◌+◌, Some, None, IfOk, IfErr, OnOk, OnErr};
-ghost use Rattle.wasm_operators_plain.specs.WasmReaders.WasmReadersBytes.Reader.{SameInput, position_in, original, rest, RefusedFrom};
-ghost use Rattle.wasm_operators_plain.specs.WasmReaders.Written.{written};
-ghost use Rattle.wasm_operators_plain.specs.Refusals.{RefusedBetween};
+ghost use Rattle.wasm_operators_proposals.specs.WasmOperatorsPlain.WasmReaders.WasmReadersBytes.Reader.{SameInput, position_in, original, rest, RefusedFrom};
+ghost use Rattle.wasm_operators_proposals.specs.WasmOperatorsPlain.WasmReaders.Written.{written};
+ghost use Rattle.wasm_operators_proposals.specs.WasmOperatorsPlain.Refusals.{RefusedBetween};
+ghost use Rattle.wasm_operators_proposals.specs.WasmOperatorsPlain.WasmReadersTypes.WasmReadersValues.declared.indices.UnpackedIndex.{UnpackedIndex};
 ghost use Rattle.wasm_operators.specs.Control.{control_from};
 ghost use Rattle.wasm_operators.specs.Legacy.{legacy_from};
-ghost use Rattle.wasm_operators.specs.Instructions.{control, legacy, of_family, aggregate_from, bulk_from, vectors_from, atomics_from, prefixed_from, plain_from, instruction_at};
+ghost use Rattle.wasm_operators.specs.Instructions.{control, legacy, of_family, aggregate_from, bulk_from, vectors_from, atomics_from, prefixed_from, plain_from, instruction_at, with_access};
+ghost use Rattle.wasm_operators_proposals.specs.WasmOperatorsAtomic.SharedCodes.{shared_operator_from};
 ghost use Rattle.wasm_operators.specs.SeenOperators.{operator_of};
 
 use crate::control::{ControlOperator, ParametricOperator, read_control, read_parametric};
@@ -14,17 +16,25 @@ use crate::frequent::next_frequent;
 use crate::immediates::{ImmediateValues, read_immediates};
 use crate::legacy::{LegacyOperator, read_legacy};
 use crate::references::{CastOperator, ReferenceOperator, read_cast, read_reference};
-use wasm_operators_atomic::operators_vector::{self, VectorOperator, vector_form};
-use wasm_operators_atomic::{AtomicOperator, atomic_form};
-use wasm_operators_plain::readers::BinaryReader;
-use wasm_operators_plain::readers_errors::Refusal;
-use wasm_operators_plain::{
+use wasm_operators_proposals::operators_atomic::operators_vector::{
+    self, VectorOperator, vector_form,
+};
+use wasm_operators_proposals::operators_atomic::{
+    AtomicOperator, SharedAtomicOperator, WideOperator, atomic_form, operator_from_code,
+    shared_form, shared_operator_from_code, wide_from_code,
+};
+use wasm_operators_proposals::operators_plain::readers::BinaryReader;
+use wasm_operators_proposals::operators_plain::readers_errors::Refusal;
+use wasm_operators_proposals::operators_plain::{
     ArrayOperator, BulkMemoryOperator, CallOperator, ConstantOperator, ConversionOperator, MemArg,
     MemoryOperator, NumericOperator, SaturatingOperator, StructOperator, TableOperator,
     VariableOperator, access_from_opcode, conversion_from_code, numeric_from_opcode, read_array,
     read_call, read_constant, read_memarg, read_memory, read_memory_size, read_struct, read_table,
     read_table_access, read_variable, read_vector, saturating_from_code, shared_from_code,
     unknown_opcode, unknown_prefixed_opcode,
+};
+use wasm_operators_proposals::{
+    AccessValues, ContinuationOperator, read_access_values, read_continuation,
 };
 
 /// An operator, by its family (Core Specification 3.0, Binary Format, Instructions).
@@ -51,15 +61,20 @@ pub enum Operator<'a> {
     /// An operator on vectors other than the constant.
     Vector(VectorOperator, ImmediateValues),
     Atomic(AtomicOperator, ImmediateValues),
+    /// An operator on integers of 128 bits (the wide-arithmetic proposal).
+    Wide(WideOperator),
+    /// An operator on continuations (the stack-switching proposal).
+    Continuation(ContinuationOperator<'a>),
+    /// An atomic access to a global, a table, a structure or an array, or `pause`.
+    Shared(SharedAtomicOperator, AccessValues),
 }
+
+/// An operator, or why there is none.
+type Read<'a> = Result<Operator<'a>, Refusal>;
 
 /// The operator of this code behind the prefix `0xfb`, which stood at this offset.
 #[tactic(auto, unfolding(crate::specs::Instructions::aggregate_from))]
-fn read_aggregate<'a>(
-    reader: &mut BinaryReader<'a>,
-    code: u32,
-    offset: u64,
-) -> Result<Operator<'a>, Refusal>
+fn read_aggregate<'a>(reader: &mut BinaryReader<'a>, code: u32, offset: u64) -> Read<'a>
     requires { offset ≤ original reader.old + position_in reader.old }
     ensures same { SameInput reader.old reader.new }
     ensures onward { position_in reader.old ≤ position_in reader.new }
@@ -79,18 +94,16 @@ fn read_aggregate<'a>(
             Some(op) => Ok(Operator::Conversion(op)),
             None => Err(unknown_prefixed_opcode(0xfb, code, offset)),
         }
-    } else {
+    } else if code < 34 {
         Ok(Operator::Struct(read_struct(reader, code, offset)?))
+    } else {
+        Ok(Operator::Cast(read_cast(reader, code, offset)?))
     }
 }
 
 /// The operator of this code behind the prefix `0xfc`, which stood at this offset.
 #[tactic(auto, unfolding(crate::specs::Instructions::bulk_from))]
-fn read_bulk<'a>(
-    reader: &mut BinaryReader<'a>,
-    code: u32,
-    offset: u64,
-) -> Result<Operator<'a>, Refusal>
+fn read_bulk<'a>(reader: &mut BinaryReader<'a>, code: u32, offset: u64) -> Read<'a>
     requires { offset ≤ original reader.old + position_in reader.old }
     ensures same { SameInput reader.old reader.new }
     ensures onward { position_in reader.old ≤ position_in reader.new }
@@ -106,18 +119,21 @@ fn read_bulk<'a>(
         }
     } else if code < 12 {
         Ok(Operator::BulkMemory(read_memory(reader, code, offset)?))
-    } else {
+    } else if code < 18 {
         Ok(Operator::Table(read_table(reader, code, offset)?))
+    } else if code < 19 {
+        Ok(Operator::BulkMemory(read_memory(reader, code, offset)?))
+    } else {
+        match wide_from_code(code) {
+            Some(op) => Ok(Operator::Wide(op)),
+            None => Err(unknown_prefixed_opcode(0xfc, code, offset)),
+        }
     }
 }
 
 /// The operator of this code behind the prefix `0xfd`, which stood at this offset.
 #[tactic(auto, unfolding(crate::specs::Instructions::vectors_from))]
-fn read_on_vectors<'a>(
-    reader: &mut BinaryReader<'a>,
-    code: u32,
-    offset: u64,
-) -> Result<Operator<'a>, Refusal>
+fn read_on_vectors<'a>(reader: &mut BinaryReader<'a>, code: u32, offset: u64) -> Read<'a>
     requires { offset ≤ original reader.old + position_in reader.old }
     ensures same { SameInput reader.old reader.new }
     ensures onward { position_in reader.old ≤ position_in reader.new }
@@ -135,13 +151,26 @@ fn read_on_vectors<'a>(
     }
 }
 
+/// The access of this code behind the prefix `0xfe`, which stood at this offset.
+fn read_shared<'a>(reader: &mut BinaryReader<'a>, code: u32, offset: u64) -> Read<'a>
+    requires { offset ≤ original reader.old + position_in reader.old }
+    ensures same { SameInput reader.old reader.new }
+    ensures onward { position_in reader.old ≤ position_in reader.new }
+    ensures refusal { IfErr result (RefusedBetween offset reader.old) }
+    ensures ok { IfOk result (λ op. with_access {R = UnpackedIndex} (rest reader.old)
+        (shared_operator_from code) ≡ Some (operator_of op, rest reader.new)) }
+    ensures err { OnErr result (with_access {R = UnpackedIndex} (rest reader.old)
+        (shared_operator_from code) ≡ None) }
+{
+    match shared_operator_from_code(code) {
+        Some(op) => Ok(Operator::Shared(op, read_access_values(reader, shared_form(op))?)),
+        None => Err(unknown_prefixed_opcode(0xfe, code, offset)),
+    }
+}
+
 /// The operator of this code behind the prefix `0xfe`, which stood at this offset.
 #[tactic(auto, unfolding(crate::specs::Instructions::atomics_from))]
-fn read_atomic<'a>(
-    reader: &mut BinaryReader<'a>,
-    code: u32,
-    offset: u64,
-) -> Result<Operator<'a>, Refusal>
+fn read_atomic<'a>(reader: &mut BinaryReader<'a>, code: u32, offset: u64) -> Read<'a>
     requires { offset ≤ original reader.old + position_in reader.old }
     ensures same { SameInput reader.old reader.new }
     ensures onward { position_in reader.old ≤ position_in reader.new }
@@ -156,7 +185,10 @@ fn read_atomic<'a>(
             None => Err(unknown_prefixed_opcode(0xfe, code, offset)),
         };
     }
-    match wasm_operators_atomic::operator_from_code(code) {
+    if code == 4 || code >= 0x4f {
+        return read_shared(reader, code, offset);
+    }
+    match operator_from_code(code) {
         Some(op) => Ok(Operator::Atomic(op, read_immediates(reader, atomic_form(op), offset)?)),
         None => Err(unknown_prefixed_opcode(0xfe, code, offset)),
     }
@@ -189,11 +221,7 @@ fn read_prefixed<'a>(
 
 /// The control operator of this opcode, as an operator.
 #[inline(always)]
-fn read_as_control<'a>(
-    reader: &mut BinaryReader<'a>,
-    opcode: u8,
-    offset: u64,
-) -> Result<Operator<'a>, Refusal>
+fn read_as_control<'a>(reader: &mut BinaryReader<'a>, opcode: u8, offset: u64) -> Read<'a>
     requires { offset ≤ original reader.old + position_in reader.old }
     ensures same { SameInput reader.old reader.new }
     ensures onward { position_in reader.old ≤ position_in reader.new }
@@ -208,11 +236,7 @@ fn read_as_control<'a>(
 
 /// The operator of legacy exceptions of this opcode, as an operator.
 #[inline(always)]
-fn read_as_legacy<'a>(
-    reader: &mut BinaryReader<'a>,
-    opcode: u8,
-    offset: u64,
-) -> Result<Operator<'a>, Refusal>
+fn read_as_legacy<'a>(reader: &mut BinaryReader<'a>, opcode: u8, offset: u64) -> Read<'a>
     requires { offset ≤ original reader.old + position_in reader.old }
     ensures same { SameInput reader.old reader.new }
     ensures onward { position_in reader.old ≤ position_in reader.new }
@@ -227,11 +251,7 @@ fn read_as_legacy<'a>(
 
 /// The operator of this opcode, which is from `0x20` on and below `0xfb` and stood at this offset.
 #[tactic(auto, unfolding(crate::specs::Instructions::plain_from))]
-fn read_on_values<'a>(
-    reader: &mut BinaryReader<'a>,
-    opcode: u8,
-    offset: u64,
-) -> Result<Operator<'a>, Refusal>
+fn read_on_values<'a>(reader: &mut BinaryReader<'a>, opcode: u8, offset: u64) -> Read<'a>
     requires place { offset ≤ original reader.old + position_in reader.old }
     requires values { 0x20 ≤ opcode }
     ensures same { SameInput reader.old reader.new }
@@ -259,18 +279,16 @@ fn read_on_values<'a>(
             Some(op) => Ok(Operator::Numeric(op)),
             None => Err(unknown_opcode(opcode, offset)),
         }
-    } else {
+    } else if opcode < 0xe0 {
         Ok(Operator::Reference(read_reference(reader, opcode, offset)?))
+    } else {
+        Ok(Operator::Continuation(read_continuation(reader, opcode, offset)?))
     }
 }
 
 /// The operator of this opcode, which is below `0xfb` and stood at this offset.
 #[tactic(auto, unfolding(crate::specs::Instructions::plain_from))]
-fn read_plain<'a>(
-    reader: &mut BinaryReader<'a>,
-    opcode: u8,
-    offset: u64,
-) -> Result<Operator<'a>, Refusal>
+fn read_plain<'a>(reader: &mut BinaryReader<'a>, opcode: u8, offset: u64) -> Read<'a>
     requires { offset ≤ original reader.old + position_in reader.old }
     ensures same { SameInput reader.old reader.new }
     ensures onward { position_in reader.old ≤ position_in reader.new }

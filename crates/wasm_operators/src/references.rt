@@ -1,19 +1,19 @@
 //! Operators on references, and casts.
 
 ghost use Rattle.std.specs.Prelude.{◌≡◌, ◌≤◌, ◌+◌, Some, None, IfOk, IfErr, OnErr};
-ghost use Rattle.wasm_operators_plain.specs.WasmReaders.WasmReadersBytes.Reader.{SameInput, position_in, original, rest, RefusedFrom};
-ghost use Rattle.wasm_operators_plain.specs.WasmReaders.Written.{written};
-ghost use Rattle.wasm_operators_plain.specs.WasmSpec.BinaryTypes.{heap_at};
-ghost use Rattle.wasm_operators_plain.specs.WasmReadersTypes.WasmReadersValues.SeenValues.{ref_of};
-ghost use Rattle.wasm_operators_plain.specs.Refusals.{RefusedBetween};
-ghost use Rattle.wasm_operators.specs.References.{cast_flags_at, branch_at, reference_from, cast_from};
+ghost use Rattle.wasm_operators_proposals.specs.WasmOperatorsPlain.WasmReaders.WasmReadersBytes.Reader.{SameInput, position_in, original, rest, RefusedFrom};
+ghost use Rattle.wasm_operators_proposals.specs.WasmOperatorsPlain.WasmReaders.Written.{written};
+ghost use Rattle.wasm_operators_proposals.specs.WasmOperatorsPlain.WasmSpec.BinaryTypes.{heap_at};
+ghost use Rattle.wasm_operators_proposals.specs.WasmOperatorsPlain.WasmReadersTypes.WasmReadersValues.SeenValues.{ref_of};
+ghost use Rattle.wasm_operators_proposals.specs.WasmOperatorsPlain.Refusals.{RefusedBetween};
+ghost use Rattle.wasm_operators.specs.References.{cast_flags_at, branch_at, reference_from, described_from, cast_from};
 ghost use Rattle.wasm_operators.specs.SeenReferences.{reference_of, cast_of};
 
-use wasm_operators_plain::readers::BinaryReader;
-use wasm_operators_plain::readers::types::read_heap_type;
-use wasm_operators_plain::readers_errors::{Fault, Malformed, Refusal};
-use wasm_operators_plain::readers_types::{HeapType, RefType};
-use wasm_operators_plain::{unknown_opcode, unknown_prefixed_opcode};
+use wasm_operators_proposals::operators_plain::readers::BinaryReader;
+use wasm_operators_proposals::operators_plain::readers::types::read_heap_type;
+use wasm_operators_proposals::operators_plain::readers_errors::{Fault, Malformed, Refusal};
+use wasm_operators_proposals::operators_plain::readers_types::{HeapType, RefType};
+use wasm_operators_proposals::operators_plain::{unknown_opcode, unknown_prefixed_opcode};
 
 /// Operators on references (Core Specification 3.0, Binary Format, Instructions, Reference
 /// Instructions), with the branches on null.
@@ -29,7 +29,9 @@ pub enum ReferenceOperator {
 }
 
 /// Tests and casts of references (Core Specification 3.0, Binary Format, Instructions, Reference
-/// Instructions), with the branches on casts.
+/// Instructions), with the branches on casts; and `ref.get_desc`, and casts and branches by
+/// descriptors (the proposal for custom descriptors), for which validation asks for
+/// `DESCRIPTOR_OPERATORS` and `CUSTOM_DESCRIPTORS`.
 #[derive(Clone, Copy, Debug)]
 pub enum CastOperator {
     RefTestNonNull {
@@ -50,6 +52,25 @@ pub enum CastOperator {
         to_ref_type: RefType,
     },
     BrOnCastFail {
+        relative_depth: u32,
+        from_ref_type: RefType,
+        to_ref_type: RefType,
+    },
+    RefGetDesc {
+        type_index: u32,
+    },
+    RefCastDescEqNonNull {
+        hty: HeapType,
+    },
+    RefCastDescEqNullable {
+        hty: HeapType,
+    },
+    BrOnCastDescEq {
+        relative_depth: u32,
+        from_ref_type: RefType,
+        to_ref_type: RefType,
+    },
+    BrOnCastDescEqFail {
         relative_depth: u32,
         from_ref_type: RefType,
         to_ref_type: RefType,
@@ -146,6 +167,51 @@ fn read_branch(reader: &mut BinaryReader) -> Result<(u32, RefType, RefType), Ref
     Ok((relative_depth, from_ref_type, to_ref_type))
 }
 
+/// The operator on descriptors of this code behind the prefix `0xfb`, which stood at this offset.
+#[tactic(auto, unfolding(crate::specs::References::described_from))]
+fn read_by_descriptor(
+    reader: &mut BinaryReader,
+    code: u32,
+    offset: u64,
+) -> Result<CastOperator, Refusal>
+    requires { offset ≤ original reader.old + position_in reader.old }
+    ensures same { SameInput reader.old reader.new }
+    ensures onward { position_in reader.old ≤ position_in reader.new }
+    ensures refusal { IfErr result (RefusedBetween offset reader.old) }
+    ensures ok { IfOk result (λ op. described_from written code (rest reader.old)
+        ≡ Some (cast_of op, rest reader.new)) }
+    ensures err { OnErr result (described_from written code (rest reader.old) ≡ None) }
+{
+    match code {
+        34 => Ok(CastOperator::RefGetDesc {
+            type_index: reader.read_var_u32()?,
+        }),
+        35 => Ok(CastOperator::RefCastDescEqNonNull {
+            hty: read_heap_type(reader)?,
+        }),
+        36 => Ok(CastOperator::RefCastDescEqNullable {
+            hty: read_heap_type(reader)?,
+        }),
+        37 => {
+            let (relative_depth, from_ref_type, to_ref_type) = read_branch(reader)?;
+            Ok(CastOperator::BrOnCastDescEq {
+                relative_depth,
+                from_ref_type,
+                to_ref_type,
+            })
+        }
+        38 => {
+            let (relative_depth, from_ref_type, to_ref_type) = read_branch(reader)?;
+            Ok(CastOperator::BrOnCastDescEqFail {
+                relative_depth,
+                from_ref_type,
+                to_ref_type,
+            })
+        }
+        _ => Err(unknown_prefixed_opcode(0xfb, code, offset)),
+    }
+}
+
 /// The test or cast of this code behind the prefix `0xfb`, which stood at this offset.
 #[tactic(auto, unfolding(crate::specs::References::cast_from))]
 pub(crate) fn read_cast(
@@ -190,6 +256,6 @@ pub(crate) fn read_cast(
                 to_ref_type,
             })
         }
-        _ => Err(unknown_prefixed_opcode(0xfb, code, offset)),
+        _ => read_by_descriptor(reader, code, offset),
     }
 }

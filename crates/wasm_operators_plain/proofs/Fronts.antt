@@ -109,7 +109,8 @@ module _ {more : List ℕ} where
       (reads_if (n == 9) (one_index-reads _ bytes)
       (reads_if (n == 10) (two_indices-reads _ bytes)
       (reads_if (n == 11) (one_index-reads _ bytes)
-      reads_none)))
+      (reads_if (n == 18) (one_index-reads _ bytes)
+      reads_none))))
 
   pub constant-reads : (b : ℕ) (bytes : List ℕ) → Reads more 0 bytes (constant_from b bytes) (constant_from b (bytes ++ more))
   unfolding constant_from

@@ -1,4 +1,4 @@
--- Core Specification 3.0, Binary Format, Instructions, Memory Instructions.
+-- Core Specification 3.0, Binary Format, Instructions, Memory Instructions; and `memory.discard` of the memory-control proposal.
 use Rattle.std.specs.Prelude.{ℕ, ◌-◌, ◌==◌, nat_lt, if◌then◌else◌, List, [], ◌∷◌, Option, None}
 use Rattle.std.specs.Option.{option_map, option_and_then}
 use Rattle.wasm_readers.specs.WasmSpec.Values.{u32_at, u64_at}
@@ -8,7 +8,7 @@ use Rattle.wasm_operators_plain.specs.declared.memories.MemoryOperator.{MemoryOp
 use Rattle.wasm_operators_plain.specs.declared.memories.MemoryOperator.TheVariants.{I32Load, I64Load, F32Load, F64Load, I32Load8S, I32Load8U, I32Load16S, I32Load16U, I64Load8S, I64Load8U, I64Load16S, I64Load16U, I64Load32S, I64Load32U, I32Store, I64Store, F32Store, F64Store, I32Store8, I32Store16, I64Store8, I64Store16, I64Store32}
 use Rattle.wasm_operators_plain.specs.declared.memories.MemArg.{MemArg}
 use Rattle.wasm_operators_plain.specs.declared.memories.BulkMemoryOperator.{BulkMemoryOperator}
-use Rattle.wasm_operators_plain.specs.declared.memories.BulkMemoryOperator.TheVariants.{MemorySize, MemoryGrow, MemoryInit, DataDrop, MemoryCopy, MemoryFill}
+use Rattle.wasm_operators_plain.specs.declared.memories.BulkMemoryOperator.TheVariants.{MemorySize, MemoryGrow, MemoryInit, DataDrop, MemoryCopy, MemoryFill, MemoryDiscard}
 
 -- the byte of a load or a store
 abbrev pub access_opcode : MemoryOperator → ℕ
@@ -77,7 +77,8 @@ memory_from n bytes =
     else (if n == 9 then one_index DataDrop bytes
     else (if n == 10 then two_indices MemoryCopy bytes
     else (if n == 11 then one_index MemoryFill bytes
-    else None)))
+    else (if n == 18 then one_index MemoryDiscard bytes
+    else None))))
 
 -- Validation, Instructions, Memory Instructions: the logarithm to base 2 of the bytes that a load or a store accesses, which its
 -- alignment may not pass

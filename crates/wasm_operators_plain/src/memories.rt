@@ -51,7 +51,7 @@ pub struct MemArg {
 }
 
 /// The operators on whole memories and on data segments (Core Specification 3.0, Binary Format,
-/// Instructions, Memory Instructions).
+/// Instructions, Memory Instructions; and `memory.discard` of the memory-control proposal).
 #[derive(Clone, Copy, Debug)]
 pub enum BulkMemoryOperator {
     MemorySize { mem: u32 },
@@ -60,6 +60,7 @@ pub enum BulkMemoryOperator {
     DataDrop { data_index: u32 },
     MemoryCopy { dst_mem: u32, src_mem: u32 },
     MemoryFill { mem: u32 },
+    MemoryDiscard { mem: u32 },
 }
 
 /// The load or store of this opcode, if there is one.
@@ -188,6 +189,9 @@ pub fn read_memory(
             src_mem: reader.read_var_u32()?,
         }),
         11 => Ok(BulkMemoryOperator::MemoryFill {
+            mem: reader.read_var_u32()?,
+        }),
+        18 => Ok(BulkMemoryOperator::MemoryDiscard {
             mem: reader.read_var_u32()?,
         }),
         _ => Err(unknown_prefixed_opcode(0xfc, code, offset)),

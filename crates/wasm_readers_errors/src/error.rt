@@ -8,11 +8,11 @@
 ghost use Rattle.std.specs.Prelude.{◌≡◌};
 
 use crate::item_rules::ItemRule;
-use crate::operator_rules::{GatedConstant, OperatorRule};
-use crate::type_rules::{DescriptorRule, GroupRule, ValueTypeRule};
 use std::alloc::{AllocError, AllocFailed};
 use std::fmt;
-use wasm_readers_features::WasmFeatures;
+use wasm_readers_features::{
+    DescriptorRule, GatedConstant, GroupRule, OperatorRule, ValueTypeRule, WasmFeatures,
+};
 use wasm_readers_values::ValType;
 
 /// Numbers, by sign and width in bits (Core Specification 3.0, Binary Format, Values, Integers).
@@ -106,6 +106,10 @@ pub enum Malformed {
     CastFlags,
     /// The kind of a catch clause is none.
     CatchKind,
+    /// The ordering of an atomic access, which is none.
+    Ordering(u32),
+    /// The kind of a handler is none.
+    HandleKind,
 }
 
 impl Malformed {
@@ -125,6 +129,10 @@ impl Malformed {
             Malformed::PrefixedOpcode(prefix, code) => write!(
                 f,
                 "illegal opcode {prefix:#04x} {code}"
+            ),
+            Malformed::Ordering(ordering) => write!(
+                f,
+                "invalid atomic consistency ordering {ordering}"
             ),
             other => f.write_str(other.text()),
         }
@@ -163,6 +171,8 @@ impl Malformed {
             Malformed::Alignment => "malformed memop alignment: alignment too large",
             Malformed::CastFlags => "malformed cast flags",
             Malformed::CatchKind => "invalid leading byte for a catch clause",
+            Malformed::Ordering(_) => "invalid atomic consistency ordering",
+            Malformed::HandleKind => "invalid leading byte for an on clause",
         }
     }
 }

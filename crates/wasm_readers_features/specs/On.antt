@@ -76,3 +76,18 @@ legacy_exceptions_on = has_flag 2097152
 -- the limits of the Rust crate's readers, which are no proposal
 abbrev pub crate_limits_on : WasmFeatures → Bool
 crate_limits_on = has_flag 4194304
+
+abbrev pub wide_arithmetic_on : WasmFeatures → Bool
+wide_arithmetic_on = has_flag 8388608
+
+abbrev pub memory_control_on : WasmFeatures → Bool
+memory_control_on = has_flag 16777216
+
+abbrev pub descriptor_operators_on : WasmFeatures → Bool
+descriptor_operators_on = has_flag 33554432
+
+abbrev pub shared_atomic_operators_on : WasmFeatures → Bool
+shared_atomic_operators_on = has_flag 67108864
+
+abbrev pub stack_switching_operators_on : WasmFeatures → Bool
+stack_switching_operators_on = has_flag 134217728

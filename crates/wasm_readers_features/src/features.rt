@@ -2,7 +2,7 @@
 //! each flag; and `STANDARD`, the set that is the default.
 
 ghost use Rattle.std.specs.Prelude.{⊤, ◌≡◌, [], ◌∷◌, codes};
-ghost use Rattle.wasm_readers_features.specs.On.{mutable_global_on, reference_types_on, multi_value_on, bulk_memory_on, simd_on, threads_on, shared_everything_threads_on, floats_on, multi_memory_on, exceptions_on, memory64_on, extended_const_on, function_references_on, gc_on, gc_types_on, custom_page_sizes_on, custom_descriptors_on, stack_switching_on, component_model_on, vector_operators_on, atomic_operators_on, legacy_exceptions_on, crate_limits_on};
+ghost use Rattle.wasm_readers_features.specs.On.{mutable_global_on, reference_types_on, multi_value_on, bulk_memory_on, simd_on, threads_on, shared_everything_threads_on, floats_on, multi_memory_on, exceptions_on, memory64_on, extended_const_on, function_references_on, gc_on, gc_types_on, custom_page_sizes_on, custom_descriptors_on, stack_switching_on, component_model_on, vector_operators_on, atomic_operators_on, legacy_exceptions_on, crate_limits_on, wide_arithmetic_on, memory_control_on, descriptor_operators_on, shared_atomic_operators_on, stack_switching_operators_on};
 
 use bitflags::{Flag, Flags, bitflag_items};
 
@@ -34,9 +34,17 @@ use bitflags::{Flag, Flags, bitflag_items};
 ///   memories.
 /// - `LEGACY_EXCEPTIONS`: `try`, `catch`, `catch_all`, `rethrow` and `delegate`, by which exceptions
 ///   were handled before references to them. They need `EXCEPTIONS` too.
+/// - `WIDE_ARITHMETIC`: sums, differences and products of integers of 128 bits.
+/// - `MEMORY_CONTROL`: `memory.discard`, which gives up the content of pages.
+/// - `DESCRIPTOR_OPERATORS`: `ref.get_desc`, and casts and branches by descriptors. They need
+///   `CUSTOM_DESCRIPTORS` too, which alone allows descriptor clauses and exact references.
+/// - `SHARED_ATOMIC_OPERATORS`: atomic accesses to globals, tables, structures and arrays, and
+///   `pause`. They need `SHARED_EVERYTHING_THREADS` too, which alone allows what is shared.
+/// - `STACK_SWITCHING_OPERATORS`: the operators on continuations. They need `STACK_SWITCHING` too,
+///   which alone allows the types of continuations.
 ///
-/// The last three have to be asked for, and are in no set but `all()`; the first two of these are
-/// no flags of the Rust crate.
+/// The last eight have to be asked for, and are in no set but `all()`. Of these `LEGACY_EXCEPTIONS`,
+/// `WIDE_ARITHMETIC` and `MEMORY_CONTROL` are flags of the Rust crate too.
 ///
 /// - `CRATE_LIMITS`: the limits of the Rust crate's readers: at most 1,000 parameters and 1,000
 ///   results of a function type, 10,000 fields of a structure type, 10,000 catch clauses of a
@@ -74,14 +82,20 @@ bitflag_items! {
         const ATOMIC_OPERATORS = 1048576;
         const LEGACY_EXCEPTIONS = 2097152;
         const CRATE_LIMITS = 4194304;
+        const WIDE_ARITHMETIC = 8388608;
+        const MEMORY_CONTROL = 16777216;
+        const DESCRIPTOR_OPERATORS = 33554432;
+        const SHARED_ATOMIC_OPERATORS = 67108864;
+        const STACK_SWITCHING_OPERATORS = 134217728;
     }
 }
 
 impl WasmFeatures {
     /// All but `SHARED_EVERYTHING_THREADS`, `CUSTOM_DESCRIPTORS`, `STACK_SWITCHING`,
     /// `CUSTOM_PAGE_SIZES`, `COMPONENT_MODEL`, `VECTOR_OPERATORS`, `ATOMIC_OPERATORS`,
-    /// `LEGACY_EXCEPTIONS` and `CRATE_LIMITS`. So it lacks the standard's operators on vectors, and has
-    /// shared memories, which the standard hasn't.
+    /// `LEGACY_EXCEPTIONS`, `WIDE_ARITHMETIC`, `MEMORY_CONTROL`, `DESCRIPTOR_OPERATORS`,
+    /// `SHARED_ATOMIC_OPERATORS`, `STACK_SWITCHING_OPERATORS` and `CRATE_LIMITS`. So it lacks the
+    /// standard's operators on vectors, and has shared memories, which the standard hasn't.
     pub const STANDARD: WasmFeatures = WasmFeatures(32703);
 
     /// No proposal.
@@ -92,11 +106,11 @@ impl WasmFeatures {
     }
 
     /// Every proposal, and so not `CRATE_LIMITS`, which takes away.
-    pub const ALL: WasmFeatures = WasmFeatures(4194303);
+    pub const ALL: WasmFeatures = WasmFeatures(264241151);
 
     /// Every proposal: [`ALL`](WasmFeatures::ALL), and so not `CRATE_LIMITS`.
     pub fn all() -> WasmFeatures
-        ensures { result.0 ≡ 4194303 }
+        ensures { result.0 ≡ 264241151 }
     {
         WasmFeatures::ALL
     }
@@ -263,6 +277,44 @@ impl WasmFeatures {
     {
         self.contains(WasmFeatures::CRATE_LIMITS)
     }
+
+    /// Whether `WIDE_ARITHMETIC` is on: sums, differences and products of integers of 128 bits.
+    pub fn wide_arithmetic(&self) -> bool
+        ensures { result ≡ wide_arithmetic_on self.now }
+    {
+        self.contains(WasmFeatures::WIDE_ARITHMETIC)
+    }
+
+    /// Whether `MEMORY_CONTROL` is on: `memory.discard`, which gives up the content of pages.
+    pub fn memory_control(&self) -> bool
+        ensures { result ≡ memory_control_on self.now }
+    {
+        self.contains(WasmFeatures::MEMORY_CONTROL)
+    }
+
+    /// Whether `DESCRIPTOR_OPERATORS` is on: `ref.get_desc`, and casts and branches by descriptors,
+    /// which need `CUSTOM_DESCRIPTORS` too.
+    pub fn descriptor_operators(&self) -> bool
+        ensures { result ≡ descriptor_operators_on self.now }
+    {
+        self.contains(WasmFeatures::DESCRIPTOR_OPERATORS)
+    }
+
+    /// Whether `SHARED_ATOMIC_OPERATORS` is on: atomic accesses to globals, tables, structures and
+    /// arrays, which need `SHARED_EVERYTHING_THREADS` too.
+    pub fn shared_atomic_operators(&self) -> bool
+        ensures { result ≡ shared_atomic_operators_on self.now }
+    {
+        self.contains(WasmFeatures::SHARED_ATOMIC_OPERATORS)
+    }
+
+    /// Whether `STACK_SWITCHING_OPERATORS` is on: the operators on continuations, which need
+    /// `STACK_SWITCHING` too.
+    pub fn stack_switching_operators(&self) -> bool
+        ensures { result ≡ stack_switching_operators_on self.now }
+    {
+        self.contains(WasmFeatures::STACK_SWITCHING_OPERATORS)
+    }
 }
 
 impl Flags for WasmFeatures {
@@ -279,7 +331,10 @@ impl Flags for WasmFeatures {
         ∷ (codes "CUSTOM_DESCRIPTORS", 65536) ∷ (codes "STACK_SWITCHING", 131072)
         ∷ (codes "COMPONENT_MODEL", 262144) ∷ (codes "VECTOR_OPERATORS", 524288)
         ∷ (codes "ATOMIC_OPERATORS", 1048576) ∷ (codes "LEGACY_EXCEPTIONS", 2097152)
-        ∷ (codes "CRATE_LIMITS", 4194304) ∷ [] };
+        ∷ (codes "CRATE_LIMITS", 4194304) ∷ (codes "WIDE_ARITHMETIC", 8388608)
+        ∷ (codes "MEMORY_CONTROL", 16777216) ∷ (codes "DESCRIPTOR_OPERATORS", 33554432)
+        ∷ (codes "SHARED_ATOMIC_OPERATORS", 67108864)
+        ∷ (codes "STACK_SWITCHING_OPERATORS", 134217728) ∷ [] };
 
     ghost set_of = { λ p. p.0 };
 

@@ -1,5 +1,5 @@
 -- Which extensions of WebAssembly are allowed: those that the Core Specification 3.0 lists in its Change History,
--- and proposals beyond it. The last takes away: it asks for the limits that the Rust crate's readers have.
+-- and proposals beyond it. `crate_limits` takes away: it asks for the limits that the Rust crate's readers have.
 use Rattle.std.specs.Prelude.{Bool, ◌||◌}
 
 pub record Features : Type 0 where
@@ -26,6 +26,11 @@ pub record Features : Type 0 where
   pub atomic_operators : Bool
   pub legacy_exceptions : Bool
   pub crate_limits : Bool
+  pub wide_arithmetic : Bool
+  pub memory_control : Bool
+  pub descriptor_operators : Bool
+  pub shared_atomic_operators : Bool
+  pub stack_switching_operators : Bool
 
 -- whether equal types are one type: without these features no type can refer to another, and each written type is its own
 abbrev pub canonical : Features → Bool

@@ -33,6 +33,11 @@ features b = record {
   atomic_operators = b;
   legacy_exceptions = b;
   crate_limits = false;
+  wide_arithmetic = b;
+  memory_control = b;
+  descriptor_operators = b;
+  shared_atomic_operators = b;
+  stack_switching_operators = b;
 }
 
 module _ {R : Type 0} where

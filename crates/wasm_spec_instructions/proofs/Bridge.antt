@@ -6,11 +6,11 @@ use Rattle.wasm_operator_steps.specs.WasmSpecRules.WasmSpec.Syntax.{eq_heap, Val
 use Rattle.wasm_operator_steps.specs.WasmSpecRules.WasmSpec.MatchingTests.{World}
 use Rattle.wasm_operator_steps.specs.WasmSpecRules.Attempts.{◌>>=◌, guard, passes, last_of, front_of}
 use Rattle.wasm_operator_steps.specs.WasmSpecRules.Signatures.{Signature}
-use Rattle.wasm_operator_steps.specs.Matching.{matches_vals}
+use Rattle.wasm_operator_steps.specs.Matching.{matches_vals, match_some}
 use Rattle.wasm_operators.specs.Control.{Block}
 use Rattle.wasm_operator_steps.specs.Bodies.{Surroundings}
 use Rattle.wasm_operator_steps.specs.Machine.{Operand, known, Kind, else_kind, is_if, may_catch, Frame, State, pushed_onto, push_vals, push_operand, popped, pop_any, as_reference, pop_reference, non_null, chosen, matches_operand, pop_val, pop_vals, become_unreachable, has_caught, rethrows, push_frame, set_local}
-use Rattle.wasm_operator_steps.specs.Actions.{OperandTypes, these, params, results, label, returned, local, global, function_reference, new_reference, descriptor_of, fields, element, field, table_address, memory_address, table_element, segment, lesser_table_address, lesser_memory_address, top, repeated, front, last, joined, Check, has, allows, global_is_mutable, local_is_set, function_is_referenced, is_exception, each_matches, may_be_cast, can_be_tested, is_aligned, suits, fields_have_defaults, has_no_descriptor, field_is_mutable, field_is_packed, element_is_mutable, element_has_default, element_is_number, element_is_packed, element_is_storable, data_is_there, segment_is_there, reaches_global, reaches_table, reaches_type, reaches_function, Action, need, refuse, take, give, take_any, take_reference, take_comparable, make_non_null, choose, stop, turn_to_else, leave, take_below, convert, enter, set, branch_on_null, branch_to_one_of, turn_to_catch, find_outside, find_caught}
+use Rattle.wasm_operator_steps.specs.Actions.{OperandTypes, these, params, results, label, returned, local, global, function_reference, new_reference, descriptor_of, descriptor_for, fields, element, field, table_address, memory_address, table_element, segment, lesser_table_address, lesser_memory_address, top, repeated, front, last, joined, Check, has, allows, global_is_mutable, local_is_set, function_is_referenced, is_exception, each_matches, each_matches_some, may_be_cast, can_be_tested, is_aligned, suits, fields_have_defaults, has_no_descriptor, field_is_mutable, field_is_packed, element_is_mutable, element_has_default, element_is_number, element_is_packed, element_is_storable, data_is_there, segment_is_there, reaches_global, reaches_table, reaches_type, reaches_function, Action, need, refuse, take, give, take_any, take_reference, take_comparable, make_non_null, choose, stop, turn_to_else, leave, take_below, convert, enter, set, branch_on_null, branch_to_one_of, turn_to_catch, find_outside, find_caught}
 use Rattle.wasm_operator_steps.specs.Meanings.{one, copies, label_by, resolve_block, block_signature, frame_signature, label_at, is_below_either, agree, converted, may_end, labels_fit, types_at, holds, pop_frame, act, run}
 use Rattle.wasm_operator_steps.specs.Steps.{checked}
 use Rattle.wasm_spec_instructions.specs.Scopes.{Scope, is_set, types_in, holds_in}
@@ -144,6 +144,7 @@ module _ {R : Type 0} {W : World R} {B : Surroundings R} (P : Place W B) where
   types_at-at p (function_reference n) = refl
   types_at-at p (new_reference n) = refl
   types_at-at p (descriptor_of n) = refl
+  types_at-at p (descriptor_for x) = refl
   types_at-at p (fields n) = refl
   types_at-at p (element n) = refl
   types_at-at p (field n k) = refl
@@ -158,6 +159,7 @@ module _ {R : Type 0} {W : World R} {B : Surroundings R} (P : Place W B) where
   holds-at : (p : Stack R) (c : Check) → holds W B (at P p) c ≡ holds_in W B P.labels P.returns (p.sets ++ P.inits) c
   holds-at p (local_is_set n) = refl
   holds-at p (each_matches t u) = λ i. passes (λ vs. passes (matches_vals W vs) (types_at-at p u i)) (types_at-at p t i)
+  holds-at p (each_matches_some t u) = λ i. passes (λ vs. passes (λ ws. match_some W ws vs) (types_at-at p u i)) (types_at-at p t i)
   holds-at p (has n) = refl
   holds-at p (allows v) = refl
   holds-at p (global_is_mutable n) = refl

@@ -1,21 +1,22 @@
 -- The rules of shapes, read for instructions whose types the context fixes.
 use Rattle.std.proofs.Common.{◌≡◌, refl, sym, ap, ◌∙◌, ℕ, Bool, true, false, ◌==◌, List, [], ◌∷◌, ◌++◌, length, Option, map, Some, None, option_map, slice_get}
 use Rattle.std.proofs.lemmas.Bool.Decides.{Decides-eqb}
-use Rattle.wasm_operator_steps.specs.WasmSpecRules.WasmSpec.Syntax.{exn_heap, abstract_heap, concrete, Heap, Ref, Val, Field, Global, Table, Memory, i32, reference}
+use Rattle.wasm_operator_steps.specs.WasmSpecRules.WasmSpec.Syntax.{exn_heap, abstract_heap, concrete, Heap, Ref, Val, Field, Global, Table, Memory, i32, i64, reference}
 use Rattle.wasm_operator_steps.specs.WasmSpecRules.WasmSpec.MatchingTests.{World}
 use Rattle.wasm_operator_steps.specs.WasmSpecRules.Attempts.{◌>>=◌, passes}
 use Rattle.wasm_operators.specs.WasmOperatorsPlain.declared.memories.MemoryOperator.{MemoryOperator}
 use Rattle.wasm_operators.specs.WasmOperatorsPlain.declared.memories.MemArg.{MemArg}
 use Rattle.wasm_operator_steps.specs.WasmSpecRules.Signatures.{Signature, resolve_ref, resolve_val}
 use Rattle.wasm_operator_steps.specs.Bodies.{Surroundings}
-use Rattle.wasm_operator_steps.specs.Actions.{of_type, joined, top, fields, new_reference, has_no_descriptor, reaches_type, of_function, of_tag, params, results, global, table_address, table_element, function_reference, has, reference_types, function_references, exceptions, is_exception, function_is_referenced, global_is_mutable, reaches_function, reaches_global, reaches_table}
-use Rattle.wasm_operator_steps.specs.Shapes.{Shape, plain, ending, nothing, one, reference_to, nullable_to, cast_checks, loading, getting, item, aggregate_checks}
-use Rattle.wasm_operator_steps.specs.Meanings.{signature_at, function_heap, top_heap, exact_if, fields_at, field_at, element_at, unpack_field, allows_memarg, table_is_64, address, ref_to}
+use Rattle.wasm_operator_steps.specs.Actions.{of_type, joined, top, descriptor_for, fields, new_reference, has_no_descriptor, reaches_type, of_function, of_tag, params, results, global, table_address, table_element, function_reference, has, reference_types, function_references, exceptions, is_exception, function_is_referenced, global_is_mutable, reaches_function, reaches_global, reaches_table}
+use Rattle.wasm_operators.specs.WasmOperatorsAtomic.declared.wide.WideOperator.TheVariants.{I64Add128, I64MulWideS}
+use Rattle.wasm_operator_steps.specs.Shapes.{Shape, plain, ending, nothing, one, reference_to, nullable_to, cast_checks, descriptor_checks, loading, getting, item, aggregate_checks, wide_shape}
+use Rattle.wasm_operator_steps.specs.Meanings.{signature_at, function_heap, top_heap, descriptor_heap, exact_if, fields_at, field_at, element_at, unpack_field, allows_memarg, table_is_64, address, ref_to}
 use Rattle.wasm_operator_steps.specs.Meanings as meaning
 use Rattle.wasm_spec_instructions.specs.ValueTypes.{ValueType, val, vals, reference_at}
 use Rattle.wasm_spec_instructions.specs.Scopes.{Scope}
 use Rattle.wasm_spec_instructions.specs.Rules.{Rule, plain_rule, ending_rule}
-use Rattle.wasm_spec_instructions.specs.Fixed.{DoesNothing, Calls, Throws, ThrowsAgain, GetsGlobal, SetsGlobal, GetsElement, RefersTo, CallsReference, CastsTo, Loads, MakesStructure, GetsField, GetsItem, FixedTypesHaveTheirRules}
+use Rattle.wasm_spec_instructions.specs.Fixed.{DoesNothing, Calls, Throws, ThrowsAgain, GetsGlobal, SetsGlobal, GetsElement, RefersTo, CallsReference, CastsTo, CastsByDescriptor, Loads, MakesStructure, GetsField, GetsItem, AddsWide, MultipliesWide, FixedTypesHaveTheirRules}
 use Rattle.wasm_spec_instructions.proofs.Attempts.{the_same, absent, bind-gives, bind-at}
 use Rattle.wasm_spec_instructions.proofs.Fits.{vals-append}
 use Rattle.wasm_spec_instructions.proofs.Names.{as_written}
@@ -218,6 +219,46 @@ module _ {R : Type 0} (W : World R) (B : Surroundings R) (C : Scope R) where
       (plain_rule (b.on, (b.allowed, (b.tested, tt))) (ap (λ (o : Option (Heap R)). meaning.one (option_map (ref_to true) o)) b.above)
       (ap (λ (o : Option (Ref R)). option_map reference o >>= λ w. Some (w ∷ [])) b.is))
 
+  abbrev cast_by_descriptor : Ref ℕ → Shape
+  cast_by_descriptor q = plain (descriptor_checks (cast_checks q)) (joined (top q) (descriptor_for q.heap)) (one (reference q))
+
+  -- a reference, or null, to a heap type that was found
+  null_at : Option (Heap R) → Option (List (Val R))
+  null_at o = meaning.one (option_map (ref_to true) o)
+
+  casts_by : (q : Ref ℕ) (ts us : List (ValueType R)) → Rule W B C (cast_by_descriptor q) ts us → CastsByDescriptor W B q ts us
+  unfolding null_at
+  casts_by q ts us (plain_rule {ts = taken} {us = given} h e f) =
+      let a = bind-gives (null_at (top_heap W B q.heap)) (λ vs. null_at (descriptor_heap W B q.heap) >>= λ ws. Some (vs ++ ws)) taken e in
+      let b = bind-gives (null_at (descriptor_heap W B q.heap)) (λ ws. Some (a.0 ++ ws)) taken a.2 in
+      let k = single (ref_to true) (top_heap W B q.heap) a.0 a.1 in
+      let d = single (ref_to true) (descriptor_heap W B q.heap) b.0 b.1 in
+      let m = found_one reference (resolve_ref B.context.types q) given f in
+      record {
+        it = m.0;
+        greatest = k.0;
+        descriptor = d.0;
+        served = h.0;
+        described = h.1.0;
+        on = h.1.1.0;
+        allowed = h.1.1.1.0;
+        tested = h.1.1.1.1.0;
+        is = m.1;
+        above = k.1;
+        there = d.1;
+        takes = ap vals (sym (the_same (a.0 ++ b.0) taken b.2) ∙ (λ i. k.2 i ++ d.2 i));
+        gives = ap vals m.2;
+      }
+
+  by_casting_by : (q : Ref ℕ) (ts us : List (ValueType R)) → CastsByDescriptor W B q ts us → Rule W B C (cast_by_descriptor q) ts us
+  unfolding null_at
+  by_casting_by q ts us b =
+      as_written W B C (cast_by_descriptor q) ts us (val (reference_at true b.greatest) ∷ val (reference_at true b.descriptor) ∷ []) (val (reference b.it) ∷ []) b.takes b.gives
+      (plain_rule (b.served, (b.described, (b.on, (b.allowed, (b.tested, tt)))))
+      (bind-at (λ vs. null_at (descriptor_heap W B q.heap) >>= λ ws. Some (vs ++ ws)) (ap null_at b.above)
+      (bind-at (λ ws. Some (reference_at true b.greatest ∷ ws)) (ap null_at b.there) refl))
+      (ap (λ (o : Option (Ref R)). option_map reference o >>= λ w. Some (w ∷ [])) b.is))
+
   loads : (op : MemoryOperator) (m : MemArg) (v : Val ℕ) (ts us : List (ValueType R)) → Rule W B C (loading op m v) ts us → Loads W B op m v ts us
   loads op m v ts us (plain_rule {ts = taken} {us = given} h e f) =
       let k = single address (option_map (λ (x : Memory). x.is_64) (slice_get B.context.memories m.memory)) taken e in
@@ -283,6 +324,24 @@ module _ {R : Type 0} (W : World R) (B : Surroundings R) (C : Scope R) where
       (plain_rule (b.on, (b.reached, (b.unpacked, tt))) (by_null_to (i32 ∷ []) (slice_get B.context.types x) b.it b.is)
       (ap (λ (o : Option (Field R)). meaning.one (option_map unpack_field o)) b.there))
 
+  adds_wide : (ts us : List (ValueType R)) → Rule W B C (wide_shape I64Add128) ts us → AddsWide W B ts us
+  adds_wide ts us (plain_rule {ts = taken} {us = given} h e f) =
+      record { on = h.0; takes = ap vals (sym (the_same (i64 ∷ i64 ∷ i64 ∷ i64 ∷ []) taken e)); gives = ap vals (sym (the_same (i64 ∷ i64 ∷ []) given f)) }
+
+  by_adding_wide : (ts us : List (ValueType R)) → AddsWide W B ts us → Rule W B C (wide_shape I64Add128) ts us
+  by_adding_wide ts us b =
+      as_written W B C (wide_shape I64Add128) ts us (val i64 ∷ val i64 ∷ val i64 ∷ val i64 ∷ []) (val i64 ∷ val i64 ∷ []) b.takes b.gives
+      (plain_rule {ts = i64 ∷ i64 ∷ i64 ∷ i64 ∷ []} {us = i64 ∷ i64 ∷ []} (b.on, tt) refl refl)
+
+  multiplies_wide : (ts us : List (ValueType R)) → Rule W B C (wide_shape I64MulWideS) ts us → MultipliesWide W B ts us
+  multiplies_wide ts us (plain_rule {ts = taken} {us = given} h e f) =
+      record { on = h.0; takes = ap vals (sym (the_same (i64 ∷ i64 ∷ []) taken e)); gives = ap vals (sym (the_same (i64 ∷ i64 ∷ []) given f)) }
+
+  by_multiplying_wide : (ts us : List (ValueType R)) → MultipliesWide W B ts us → Rule W B C (wide_shape I64MulWideS) ts us
+  by_multiplying_wide ts us b =
+      as_written W B C (wide_shape I64MulWideS) ts us (val i64 ∷ val i64 ∷ []) (val i64 ∷ val i64 ∷ []) b.takes b.gives
+      (plain_rule {ts = i64 ∷ i64 ∷ []} {us = i64 ∷ i64 ∷ []} (b.on, tt) refl refl)
+
 pub fixed_types_have_their_rules : (R : Type 0) → FixedTypesHaveTheirRules R
 fixed_types_have_their_rules R W B C = record {
   nop = λ ts us. (rests W B C ts us, by_rest W B C ts us);
@@ -295,8 +354,11 @@ fixed_types_have_their_rules R W B C = record {
   ref_func = λ x ts us. (refers W B C x ts us, by_referring W B C x ts us);
   call_ref = λ x ts us. (calls_reference W B C x ts us, by_calling_reference W B C x ts us);
   ref_cast = λ q ts us. (casts_to W B C q ts us, by_cast W B C q ts us);
+  ref_cast_desc_eq = λ q ts us. (casts_by W B C q ts us, by_casting_by W B C q ts us);
   load = λ op m v ts us. (loads W B C op m v ts us, by_load W B C op m v ts us);
   struct_new = λ x ts us. (makes W B C x ts us, by_making W B C x ts us);
   struct_get = λ x i ts us. (gets_field W B C x i ts us, by_getting_field W B C x i ts us);
   array_get = λ x ts us. (gets_item W B C x ts us, by_getting_item W B C x ts us);
+  add128 = λ ts us. (adds_wide W B C ts us, by_adding_wide W B C ts us);
+  mul_wide_s = λ ts us. (multiplies_wide W B C ts us, by_multiplying_wide W B C ts us);
 }

@@ -6,7 +6,7 @@ use Rattle.wasm_operator_steps.specs.WasmSpecRules.WasmSpec.MatchingTests.{World
 use Rattle.wasm_operator_steps.specs.WasmSpecRules.Attempts.{passes, among}
 use Rattle.wasm_operator_steps.specs.Bodies.{Surroundings}
 use Rattle.wasm_operator_steps.specs.Machine.{Operand, as_reference, chosen, non_null, matches_operand}
-use Rattle.wasm_operator_steps.specs.Actions.{OperandTypes, Check, has, allows, global_is_mutable, local_is_set, function_is_referenced, is_exception, each_matches, may_be_cast, can_be_tested, is_aligned, suits, fields_have_defaults, has_no_descriptor, field_is_mutable, field_is_packed, element_is_mutable, element_has_default, element_is_number, element_is_packed, element_is_storable, data_is_there, segment_is_there, reaches_global, reaches_table, reaches_type, reaches_function, Action, need, refuse, take, give, take_any, take_reference, take_comparable, make_non_null, choose, stop, turn_to_else, leave, take_below, convert, enter, set, branch_on_null, branch_to_one_of, turn_to_catch, find_outside, find_caught}
+use Rattle.wasm_operator_steps.specs.Actions.{OperandTypes, Check, has, allows, global_is_mutable, local_is_set, function_is_referenced, is_exception, each_matches, each_matches_some, may_be_cast, can_be_tested, is_aligned, suits, fields_have_defaults, has_no_descriptor, field_is_mutable, field_is_packed, element_is_mutable, element_has_default, element_is_number, element_is_packed, element_is_storable, data_is_there, segment_is_there, reaches_global, reaches_table, reaches_type, reaches_function, Action, need, refuse, take, give, take_any, take_reference, take_comparable, make_non_null, choose, stop, turn_to_else, leave, take_below, convert, enter, set, branch_on_null, branch_to_one_of, turn_to_catch, find_outside, find_caught}
 use Rattle.wasm_operator_steps.specs.Shapes.{Shape, plain, ending, opening, closing, turning, dropping, choosing, never, testing_null, asserting_non_null, branching_on_null, branching_on_non_null, branching_by_table, setting, giving_back, measuring, comparing, converting, catching, delegating, rethrowing}
 use Rattle.wasm_operator_steps.specs.Meanings.{is_below_either, agree, converted}
 use Rattle.wasm_operator_steps.specs.Steps.{actions_of, checked}
@@ -100,6 +100,7 @@ module _ {R : Type 0} (W : World R) (B : Surroundings R) where
       (ls : List (List (Val R))) (rs : Option (List (Val R))) (X Y : List ℕ) (c : Check) → Covers X Y → holds_in W B ls rs X c ≡ true → holds_in W B ls rs Y c ≡ true
   holds-more ls rs X Y (local_is_set n) h e = h n e
   holds-more ls rs X Y (each_matches t u) h e = e
+  holds-more ls rs X Y (each_matches_some t u) h e = e
   holds-more ls rs X Y (has n) h e = e
   holds-more ls rs X Y (allows v) h e = e
   holds-more ls rs X Y (global_is_mutable n) h e = e

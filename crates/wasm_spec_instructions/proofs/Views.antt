@@ -9,6 +9,8 @@ use Rattle.wasm_operators.specs.References as references
 use Rattle.wasm_operators.specs.References.{Reference, Cast}
 use Rattle.wasm_operators.specs.Legacy as legacy
 use Rattle.wasm_operators.specs.Legacy.{Legacy}
+use Rattle.wasm_operators.specs.Continuations as continuations
+use Rattle.wasm_operators.specs.Continuations.{Continuation}
 use Rattle.wasm_operators.specs.Instructions as instruction
 use Rattle.wasm_operators.specs.Instructions.{Instruction}
 use Rattle.wasm_operators.specs.WasmOperatorsPlain.declared.calls.CallOperator.{CallOperator}
@@ -21,14 +23,14 @@ use Rattle.wasm_operators.specs.WasmOperatorsPlain.declared.memories.MemoryOpera
 use Rattle.wasm_operators.specs.WasmOperatorsPlain.declared.memories.MemoryOperator.TheVariants.{I32Load, I64Load, F32Load, F64Load, I32Load8S, I32Load8U, I32Load16S, I32Load16U, I64Load8S, I64Load8U, I64Load16S, I64Load16U, I64Load32S, I64Load32U, I32Store, I64Store, F32Store, F64Store, I32Store8, I32Store16, I64Store8, I64Store16, I64Store32}
 use Rattle.wasm_operators.specs.WasmOperatorsPlain.declared.memories.MemArg.{MemArg}
 use Rattle.wasm_operators.specs.WasmOperatorsPlain.declared.memories.BulkMemoryOperator.{BulkMemoryOperator}
-use Rattle.wasm_operators.specs.WasmOperatorsPlain.declared.memories.BulkMemoryOperator.TheVariants.{MemorySize, MemoryGrow, MemoryInit, DataDrop, MemoryCopy, MemoryFill}
+use Rattle.wasm_operators.specs.WasmOperatorsPlain.declared.memories.BulkMemoryOperator.TheVariants.{MemorySize, MemoryGrow, MemoryInit, DataDrop, MemoryCopy, MemoryFill, MemoryDiscard}
 use Rattle.wasm_operators.specs.WasmOperatorsPlain.declared.conversions.ConversionOperator.{ConversionOperator}
 use Rattle.wasm_operators.specs.WasmOperatorsPlain.declared.conversions.ConversionOperator.TheVariants.{AnyConvertExtern, ExternConvertAny, RefI31, I31GetS, I31GetU, RefI31Shared}
 use Rattle.wasm_operators.specs.WasmOperatorsPlain.declared.structs.StructOperator.{StructOperator}
 use Rattle.wasm_operators.specs.WasmOperatorsPlain.declared.structs.StructOperator.TheVariants.{StructNew, StructNewDefault, StructGet, StructGetS, StructGetU, StructSet, StructNewDesc, StructNewDefaultDesc}
 use Rattle.wasm_operators.specs.WasmOperatorsPlain.declared.arrays.ArrayOperator.{ArrayOperator}
 use Rattle.wasm_operators.specs.WasmOperatorsPlain.declared.arrays.ArrayOperator.TheVariants.{ArrayNew, ArrayNewDefault, ArrayNewFixed, ArrayNewData, ArrayNewElem, ArrayGet, ArrayGetS, ArrayGetU, ArraySet, ArrayLen, ArrayFill, ArrayCopy, ArrayInitData, ArrayInitElem}
-use Rattle.wasm_operator_steps.specs.Shapes.{call_shape, parametric_shape, variable_shape, table_shape, access_shape, memory_shape, computing, reference_shape, cast_shape, conversion_shape, struct_shape, array_shape, shape_of}
+use Rattle.wasm_operator_steps.specs.Shapes.{call_shape, parametric_shape, variable_shape, table_shape, access_shape, memory_shape, computing, reference_shape, cast_shape, continuation_shape, conversion_shape, struct_shape, array_shape, shape_of}
 use Rattle.wasm_spec_instructions.specs.Code.{Opening, a_block, a_loop, an_if, a_try, a_try_table, Handler, a_catch, a_catch_all, written, handler_written, delegate_, else_, end_, is_simple}
 
 call-simple : (op : CallOperator) → is_simple (call_shape op) ≡ true
@@ -70,6 +72,7 @@ memory-simple (MemoryFill x) = refl
 memory-simple (MemoryCopy x y) = refl
 memory-simple (MemoryInit y x) = refl
 memory-simple (DataDrop y) = refl
+memory-simple (MemoryDiscard x) = refl
 
 reference-simple : (op : Reference ℕ) → is_simple (reference_shape op) ≡ true
 reference-simple (references.ref_null h) = refl
@@ -80,11 +83,24 @@ reference-simple (references.ref_func x) = refl
 reference-simple (references.br_on_null l) = refl
 reference-simple (references.br_on_non_null l) = refl
 
+continuation-simple : (op : Continuation) → is_simple (continuation_shape op) ≡ true
+continuation-simple (continuations.cont_new n) = refl
+continuation-simple (continuations.cont_bind m n) = refl
+continuation-simple (continuations.suspend x) = refl
+continuation-simple (continuations.resume n hs) = refl
+continuation-simple (continuations.resume_throw n x hs) = refl
+continuation-simple (continuations.resume_throw_ref n hs) = refl
+continuation-simple (continuations.switch n x) = refl
+
 cast-simple : (op : Cast ℕ) → is_simple (cast_shape op) ≡ true
 cast-simple (references.ref_test q) = refl
 cast-simple (references.ref_cast q) = refl
 cast-simple (references.br_on_cast l r q) = refl
 cast-simple (references.br_on_cast_fail l r q) = refl
+cast-simple (references.ref_get_desc x) = refl
+cast-simple (references.ref_cast_desc_eq q) = refl
+cast-simple (references.br_on_cast_desc_eq l r q) = refl
+cast-simple (references.br_on_cast_desc_eq_fail l r q) = refl
 
 conversion-simple : (op : ConversionOperator) → is_simple (conversion_shape op) ≡ true
 conversion-simple AnyConvertExtern = refl
@@ -200,3 +216,6 @@ view (instruction.structure op) = is_plain (struct-simple op)
 view (instruction.array op) = is_plain (array-simple op)
 view (instruction.vector op values) = is_plain refl
 view (instruction.atomic op values) = is_plain refl
+view (instruction.wide op) = is_plain refl
+view (instruction.shared op values) = is_plain refl
+view (instruction.continuation op) = is_plain (continuation-simple op)

@@ -2,7 +2,7 @@
 -- functions, casts, loads, structures and arrays.
 -- Core Specification 3.0, Validation, Instructions.
 use Rattle.std.specs.Prelude.{◌≡◌, ◌↔◌, ℕ, true, false, List, [], ◌∷◌, ◌++◌, map, Some, length, slice_get}
-use Rattle.wasm_operator_steps.specs.WasmSpecRules.WasmSpec.Syntax.{exn_heap, abstract_heap, concrete, Heap, Ref, Val, Field, Global, Table, Memory, i32, reference}
+use Rattle.wasm_operator_steps.specs.WasmSpecRules.WasmSpec.Syntax.{exn_heap, abstract_heap, concrete, Heap, Ref, Val, Field, Global, Table, Memory, i32, i64, reference}
 use Rattle.wasm_operator_steps.specs.WasmSpecRules.WasmSpec.MatchingTests.{World}
 use Rattle.wasm_operator_steps.specs.WasmSpecRules.Attempts.{among}
 use Rattle.wasm_operator_steps.specs.WasmSpecRules.Signatures.{Signature, resolve_ref, resolve_val}
@@ -16,10 +16,11 @@ use Rattle.wasm_operators.specs.WasmOperatorsPlain.declared.memories.MemoryOpera
 use Rattle.wasm_operators.specs.WasmOperatorsPlain.declared.memories.MemArg.{MemArg}
 use Rattle.wasm_operators.specs.WasmOperatorsPlain.declared.structs.StructOperator.TheVariants.{StructNew, StructGet}
 use Rattle.wasm_operators.specs.WasmOperatorsPlain.declared.arrays.ArrayOperator.TheVariants.{ArrayGet}
+use Rattle.wasm_operators.specs.WasmOperatorsAtomic.declared.wide.WideOperator.TheVariants.{I64Add128, I64MulWideS}
 use Rattle.wasm_operator_steps.specs.Bodies.{Surroundings}
 use Rattle.wasm_operator_steps.specs.Actions.{of_type, of_function, of_tag, reaches_function, reaches_global, reaches_table, reaches_type, can_be_tested, has_no_descriptor, allows, field_is_packed, element_is_packed}
 use Rattle.wasm_operator_steps.specs.Shapes.{loading}
-use Rattle.wasm_operator_steps.specs.Meanings.{signature_at, function_heap, top_heap, exact_if, fields_at, field_at, element_at, unpack_field, allows_memarg, address, holds}
+use Rattle.wasm_operator_steps.specs.Meanings.{signature_at, function_heap, top_heap, descriptor_heap, exact_if, fields_at, field_at, element_at, unpack_field, allows_memarg, address, holds}
 use Rattle.wasm_spec_instructions.specs.ValueTypes.{ValueType, val, vals, reference_at}
 use Rattle.wasm_spec_instructions.specs.Scopes.{Scope, nowhere}
 use Rattle.wasm_spec_instructions.specs.Rules.{Rule}
@@ -112,6 +113,23 @@ module _ {R : Type 0} (W : World R) (B : Surroundings R) where
     pub takes : ts ≡ val (reference_at true greatest) ∷ []
     pub gives : us ≡ val (reference it) ∷ []
 
+  -- `ref.cast_desc_eq rt : rt' (ref null dt) -> rt`, where rt' is the greatest type of the hierarchy of rt, and dt is the descriptor of the
+  -- type that rt names, exactly where rt does so (the proposal for custom descriptors)
+  pub record CastsByDescriptor (q : Ref ℕ) (ts us : List (ValueType R)) : Type 0 where
+    pub it : Ref R
+    pub greatest : Heap R
+    pub descriptor : Heap R
+    pub served : B.features.descriptor_operators ≡ true
+    pub described : B.features.custom_descriptors ≡ true
+    pub on : B.features.gc ≡ true
+    pub allowed : holds W B (nowhere W B) (allows (reference q)) ≡ true
+    pub tested : holds W B (nowhere W B) (can_be_tested q) ≡ true
+    pub is : resolve_ref B.context.types q ≡ Some it
+    pub above : top_heap W B q.heap ≡ Some greatest
+    pub there : descriptor_heap W B q.heap ≡ Some descriptor
+    pub takes : ts ≡ val (reference_at true greatest) ∷ val (reference_at true descriptor) ∷ []
+    pub gives : us ≡ val (reference it) ∷ []
+
   -- `t.load memarg : at -> t`, where C.mems[x] = at lim
   pub record Loads (op : MemoryOperator) (m : MemArg) (v : Val ℕ) (ts us : List (ValueType R)) : Type 0 where
     pub it : Memory
@@ -159,6 +177,18 @@ module _ {R : Type 0} (W : World R) (B : Surroundings R) where
     pub takes : ts ≡ val (reference_at true (concrete it)) ∷ val i32 ∷ []
     pub gives : us ≡ val (unpack_field element) ∷ []
 
+  -- `i64.add128 : i64 i64 i64 i64 -> i64 i64`, by the wide-arithmetic proposal
+  pub record AddsWide (ts us : List (ValueType R)) : Type 0 where
+    pub on : B.features.wide_arithmetic ≡ true
+    pub takes : ts ≡ val i64 ∷ val i64 ∷ val i64 ∷ val i64 ∷ []
+    pub gives : us ≡ val i64 ∷ val i64 ∷ []
+
+  -- `i64.mul_wide_s : i64 i64 -> i64 i64`, by the same
+  pub record MultipliesWide (ts us : List (ValueType R)) : Type 0 where
+    pub on : B.features.wide_arithmetic ≡ true
+    pub takes : ts ≡ val i64 ∷ val i64 ∷ []
+    pub gives : us ≡ val i64 ∷ val i64 ∷ []
+
   pub record FixedTypes (C : Scope R) : Type 0 where
     pub nop : (ts us : List (ValueType R)) → Goes W B C (instruction.control control.nop) ts us ↔ DoesNothing ts us
     pub call : (x : ℕ) (ts us : List (ValueType R)) → Goes W B C (instruction.call (Call x)) ts us ↔ Calls x ts us
@@ -170,10 +200,13 @@ module _ {R : Type 0} (W : World R) (B : Surroundings R) where
     pub ref_func : (x : ℕ) (ts us : List (ValueType R)) → Goes W B C (instruction.reference (references.ref_func x)) ts us ↔ RefersTo x ts us
     pub call_ref : (x : ℕ) (ts us : List (ValueType R)) → Goes W B C (instruction.call (CallRef x)) ts us ↔ CallsReference x ts us
     pub ref_cast : (q : Ref ℕ) (ts us : List (ValueType R)) → Goes W B C (instruction.cast (references.ref_cast q)) ts us ↔ CastsTo q ts us
+    pub ref_cast_desc_eq : (q : Ref ℕ) (ts us : List (ValueType R)) → Goes W B C (instruction.cast (references.ref_cast_desc_eq q)) ts us ↔ CastsByDescriptor q ts us
     pub load : (op : MemoryOperator) (m : MemArg) (v : Val ℕ) (ts us : List (ValueType R)) → Rule W B C (loading op m v) ts us ↔ Loads op m v ts us
     pub struct_new : (x : ℕ) (ts us : List (ValueType R)) → Goes W B C (instruction.structure (StructNew x)) ts us ↔ MakesStructure x ts us
     pub struct_get : (x i : ℕ) (ts us : List (ValueType R)) → Goes W B C (instruction.structure (StructGet x i)) ts us ↔ GetsField x i ts us
     pub array_get : (x : ℕ) (ts us : List (ValueType R)) → Goes W B C (instruction.array (ArrayGet x)) ts us ↔ GetsItem x ts us
+    pub add128 : (ts us : List (ValueType R)) → Goes W B C (instruction.wide I64Add128) ts us ↔ AddsWide ts us
+    pub mul_wide_s : (ts us : List (ValueType R)) → Goes W B C (instruction.wide I64MulWideS) ts us ↔ MultipliesWide ts us
 
 -- Each of these instructions has the standard's rule.
 abbrev pub FixedTypesHaveTheirRules : (R : Type 0) → Type 0

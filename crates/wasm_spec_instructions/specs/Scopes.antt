@@ -6,10 +6,10 @@ use Rattle.std.specs.Option.{option_map}
 use Rattle.wasm_operator_steps.specs.WasmSpecRules.WasmSpec.Syntax.{Val}
 use Rattle.wasm_operator_steps.specs.WasmSpecRules.WasmSpec.MatchingTests.{World}
 use Rattle.wasm_operator_steps.specs.WasmSpecRules.Attempts.{◌>>=◌, passes, among, last_of, front_of}
-use Rattle.wasm_operator_steps.specs.Matching.{matches_vals}
+use Rattle.wasm_operator_steps.specs.Matching.{matches_vals, match_some}
 use Rattle.wasm_operator_steps.specs.Bodies.{Surroundings}
 use Rattle.wasm_operator_steps.specs.Machine.{State}
-use Rattle.wasm_operator_steps.specs.Actions.{OperandTypes, label, returned, repeated, front, last, joined, Check, local_is_set, each_matches}
+use Rattle.wasm_operator_steps.specs.Actions.{OperandTypes, label, returned, repeated, front, last, joined, Check, local_is_set, each_matches, each_matches_some}
 use Rattle.wasm_operator_steps.specs.Meanings.{copies, one, types_at, holds}
 
 -- the types at the labels, the innermost first; which of the labels are of handlers, where an exception is caught; the results of the
@@ -61,6 +61,7 @@ module _ {R : Type 0} (W : World R) (B : Surroundings R) where
   abbrev pub holds_in : List (List (Val R)) → Option (List (Val R)) → List ℕ → Check → Bool
   holds_in labels returns sets (local_is_set x) = is_set x sets
   holds_in labels returns sets (each_matches t u) = passes (λ vs. passes (matches_vals W vs) (types_in labels returns u)) (types_in labels returns t)
+  holds_in labels returns sets (each_matches_some t u) = passes (λ vs. passes (λ ws. match_some W ws vs) (types_in labels returns u)) (types_in labels returns t)
   holds_in labels returns sets c = holds W B nowhere c
 
   abbrev pub AllHold : Scope R → List Check → Type 0

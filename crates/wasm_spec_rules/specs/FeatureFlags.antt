@@ -28,4 +28,9 @@ features_of flags = record {
   atomic_operators = has_flag 1048576 flags;
   legacy_exceptions = has_flag 2097152 flags;
   crate_limits = has_flag 4194304 flags;
+  wide_arithmetic = has_flag 8388608 flags;
+  memory_control = has_flag 16777216 flags;
+  descriptor_operators = has_flag 33554432 flags;
+  shared_atomic_operators = has_flag 67108864 flags;
+  stack_switching_operators = has_flag 134217728 flags;
 }

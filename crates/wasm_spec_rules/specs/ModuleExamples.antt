@@ -41,6 +41,11 @@ first_version = record {
   atomic_operators = false;
   legacy_exceptions = false;
   crate_limits = false;
+  wide_arithmetic = false;
+  memory_control = false;
+  descriptor_operators = false;
+  shared_atomic_operators = false;
+  stack_switching_operators = false;
 }
 
 -- a table of so many entries

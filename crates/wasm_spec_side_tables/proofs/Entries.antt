@@ -8,6 +8,13 @@ use Rattle.wasm_operators.specs.Legacy as legacy
 use Rattle.wasm_operators.specs.Legacy.{Legacy}
 use Rattle.wasm_operators.specs.References as references
 use Rattle.wasm_operators.specs.References.{Reference, Cast}
+use Rattle.wasm_operators.specs.Continuations as continuations
+use Rattle.wasm_operators.specs.Continuations.{Continuation}
+use Rattle.wasm_operators.specs.WasmOperatorsProposals.declared.continuations.Handle.{Handle}
+use Rattle.wasm_operators.specs.WasmOperatorsProposals.declared.continuations.Handle.TheVariants as handle
+use Rattle.wasm_operator_steps.specs.WasmSpecRules.WasmSpec.Syntax.{exn_heap, abstract_heap}
+use Rattle.wasm_operator_steps.specs.Actions.{OperandTypes, params, of_tag, joined}
+use Rattle.wasm_operator_steps.specs.Shapes.{one, nullable_to, reference_to, takes_of}
 use Rattle.wasm_operators.specs.Instructions as instruction
 use Rattle.wasm_operators.specs.Instructions.{Instruction}
 use Rattle.wasm_operators.specs.declared.control.Catch.{Catch}
@@ -17,7 +24,7 @@ use Rattle.wasm_operator_steps.specs.Steps.{step_in}
 use Rattle.wasm_spec_side_tables.specs.declared.entry.Entry.{Entry}
 use Rattle.wasm_spec_side_tables.specs.declared.entry.Place.{Place}
 use Rattle.wasm_spec_side_tables.specs.declared.entry.OpenBlock.{OpenBlock}
-use Rattle.wasm_spec_side_tables.specs.SideTables.{Placed, Branch, to_label, past_then, catching_to, catch_label, branches, control_branches, legacy_branches, reference_branches, cast_branches, Nesting, opens_loop, opens, turns, closes, stays, nesting, control_nesting, legacy_nesting, past, place_past, place_behind, place_behind_then, Label, back_to, ahead, labels_behind, place_by, branch_place, counts, entries_at, entries_from, side_table}
+use Rattle.wasm_spec_side_tables.specs.SideTables.{Placed, Branch, to_label, past_then, catching_to, catch_label, branches, control_branches, legacy_branches, reference_branches, cast_branches, handle_branches, continuation_branches, Nesting, opens_loop, opens, turns, closes, stays, nesting, control_nesting, legacy_nesting, past, place_past, place_behind, place_behind_then, Label, back_to, ahead, labels_behind, place_by, branch_place, counts, entries_at, entries_from, side_table}
 use Rattle.wasm_spec_side_tables.specs.Building.{Nest, Built, opened, nested, number_of, resolved, resolved_each, begun, planned, planned_each, noted, built}
 use Rattle.wasm_spec_side_tables.specs.Laws.{TablesAreRight}
 use Rattle.wasm_spec_side_tables.proofs.Lists.{the_same, absent, bind-gives, bind-at, get-first}
@@ -83,6 +90,24 @@ for_cast (references.ref_test q) = tt
 for_cast (references.ref_cast q) = tt
 for_cast (references.br_on_cast l r q) = (tt, tt)
 for_cast (references.br_on_cast_fail l r q) = (tt, tt)
+for_cast (references.ref_get_desc x) = tt
+for_cast (references.ref_cast_desc_eq q) = tt
+for_cast (references.br_on_cast_desc_eq l r q) = (tt, tt)
+for_cast (references.br_on_cast_desc_eq_fail l r q) = (tt, tt)
+
+for_handles : (t : OperandTypes) (hs : List Handle) → AreFor stays (handle_branches t hs)
+for_handles t [] = tt
+for_handles t (handle.OnLabel x l ∷ hs) = (tt, for_handles t hs)
+for_handles t (handle.OnSwitch x ∷ hs) = for_handles t hs
+
+for_continuation : (op : Continuation) → AreFor stays (continuation_branches op)
+for_continuation (continuations.cont_new n) = tt
+for_continuation (continuations.cont_bind m n) = tt
+for_continuation (continuations.suspend x) = tt
+for_continuation (continuations.resume n hs) = for_handles (joined (takes_of n) (one (nullable_to n))) hs
+for_continuation (continuations.resume_throw n x hs) = for_handles (joined (params (of_tag x)) (one (nullable_to n))) hs
+for_continuation (continuations.resume_throw_ref n hs) = for_handles (joined (one (reference_to true (abstract_heap false exn_heap))) (one (nullable_to n))) hs
+for_continuation (continuations.switch n x) = tt
 
 are_for : (i : Instruction ℕ) → AreFor (nesting i) (branches i)
 are_for (instruction.control op) = for_control op
@@ -103,6 +128,9 @@ are_for (instruction.structure op) = tt
 are_for (instruction.array op) = tt
 are_for (instruction.vector op values) = tt
 are_for (instruction.atomic op values) = tt
+are_for (instruction.wide op) = tt
+are_for (instruction.shared op values) = tt
+are_for (instruction.continuation op) = for_continuation op
 
 -- the number of a label is that of its block
 map-gives : {A B : Type 0} (f : A → B) (o : Option A) (b : B) → option_map f o ≡ Some b → (a : A) × (o ≡ Some a) × (f a ≡ b)

@@ -10,7 +10,7 @@ use Rattle.wasm_operator_steps.specs.Steps.{step_in}
 use Rattle.wasm_spec_side_tables.specs.declared.entry.Entry.{Entry}
 use Rattle.wasm_spec_side_tables.specs.declared.entry.Place.{Place}
 use Rattle.wasm_spec_side_tables.specs.declared.entry.OpenBlock.{OpenBlock}
-use Rattle.wasm_spec_side_tables.specs.SideTables.{Placed, Branch, to_label, past_then, catching_to, branches, Nesting, opens_loop, opens, turns, closes, stays, nesting, counts}
+use Rattle.wasm_spec_side_tables.specs.SideTables.{Placed, Branch, to_label, past_then, catching_to, handling_to, branches, Nesting, opens_loop, opens, turns, closes, stays, nesting, counts}
 
 -- the places by their numbers, and the blocks that are open, the innermost first
 pub record Nest : Type 0 where
@@ -48,6 +48,7 @@ abbrev pub number_of : Nest → Branch → Option ℕ
 number_of N (to_label l taken) = option_map (λ o. o.label) (slice_get N.open_blocks l)
 number_of N (past_then b) = Some (length N.places + 1)
 number_of N (catching_to b l) = option_map (λ o. o.label) (slice_get N.open_blocks l)
+number_of N (handling_to t l) = option_map (λ o. o.label) (slice_get N.open_blocks l)
 
 -- an entry with the place of its number
 abbrev pub resolved : List Place → Entry → Option Entry

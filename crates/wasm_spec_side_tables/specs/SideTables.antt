@@ -14,9 +14,16 @@ use Rattle.wasm_operators.specs.Instructions as instruction
 use Rattle.wasm_operators.specs.Instructions.{Instruction}
 use Rattle.wasm_operators.specs.declared.control.Catch.{Catch}
 use Rattle.wasm_operators.specs.declared.control.Catch.TheVariants as catch
+use Rattle.wasm_operators.specs.Continuations as continuations
+use Rattle.wasm_operators.specs.Continuations.{Continuation}
+use Rattle.wasm_operators.specs.WasmOperatorsProposals.declared.continuations.Handle.{Handle}
+use Rattle.wasm_operators.specs.WasmOperatorsProposals.declared.continuations.Handle.TheVariants as handle
+use Rattle.wasm_operator_steps.specs.WasmSpecRules.WasmSpec.Syntax.{exn_heap, abstract_heap}
+use Rattle.wasm_operator_steps.specs.Actions.{OperandTypes, params, of_tag, joined}
+use Rattle.wasm_operator_steps.specs.Shapes.{one, nullable_to, reference_to, takes_of}
 use Rattle.wasm_operator_steps.specs.Bodies.{Surroundings}
 use Rattle.wasm_operator_steps.specs.Machine.{State}
-use Rattle.wasm_operator_steps.specs.Meanings.{label_by, frame_signature, type_signature}
+use Rattle.wasm_operator_steps.specs.Meanings.{label_by, frame_signature, type_signature, types_at}
 use Rattle.wasm_operator_steps.specs.Steps.{step_in}
 use Rattle.wasm_spec_side_tables.specs.declared.entry.Entry.{Entry}
 use Rattle.wasm_spec_side_tables.specs.declared.entry.Place.{Place}
@@ -28,11 +35,13 @@ pub record Placed : Type 0 where
   pub behind : ℕ
 
 -- Branches: to a label, once so many operands were taken that it isn't given; from an `if` of this block type that isn't taken, to what is
--- behind its `else`, or behind its `end`; and from a `try_table` of this block type, where it catches, to a label around it.
+-- behind its `else`, or behind its `end`; from a `try_table` of this block type, where it catches, to a label around it; and from what resumes
+-- a continuation, once operands of these types were taken, to the label of a handler.
 pub data Branch : Type 0 where
   to_label : ℕ → ℕ → Branch
   past_then : Block ℕ → Branch
   catching_to : Block ℕ → ℕ → Branch
+  handling_to : OperandTypes → ℕ → Branch
 
 abbrev pub catch_label : Catch → ℕ
 catch_label (catch.One x l) = l
@@ -63,13 +72,31 @@ reference_branches _ = []
 abbrev pub cast_branches : Cast ℕ → List Branch
 cast_branches (references.br_on_cast l r q) = to_label l 0 ∷ []
 cast_branches (references.br_on_cast_fail l r q) = to_label l 0 ∷ []
+cast_branches (references.br_on_cast_desc_eq l r q) = to_label l 1 ∷ []
+cast_branches (references.br_on_cast_desc_eq_fail l r q) = to_label l 1 ∷ []
 cast_branches _ = []
+
+abbrev pub handle_branches : OperandTypes → List Handle → List Branch
+handle_branches t [] = []
+handle_branches t (handle.OnLabel x l ∷ hs) = handling_to t l ∷ handle_branches t hs
+handle_branches t (handle.OnSwitch x ∷ hs) = handle_branches t hs
+
+-- those of handlers of a continuation of a type, which is resumed by these operands
+abbrev pub resuming_branches : ℕ → OperandTypes → List Handle → List Branch
+resuming_branches n t hs = handle_branches (joined t (one (nullable_to n))) hs
+
+abbrev pub continuation_branches : Continuation → List Branch
+continuation_branches (continuations.resume n hs) = resuming_branches n (takes_of n) hs
+continuation_branches (continuations.resume_throw n x hs) = resuming_branches n (params (of_tag x)) hs
+continuation_branches (continuations.resume_throw_ref n hs) = resuming_branches n (one (reference_to true (abstract_heap false exn_heap))) hs
+continuation_branches _ = []
 
 abbrev pub branches : Instruction ℕ → List Branch
 branches (instruction.control op) = control_branches op
 branches (instruction.legacy op) = legacy_branches op
 branches (instruction.reference op) = reference_branches op
 branches (instruction.cast op) = cast_branches op
+branches (instruction.continuation op) = continuation_branches op
 branches _ = []
 
 -- what an instruction does to the nesting of blocks: it opens a loop or another block, turns one to its next part, or closes one
@@ -151,6 +178,7 @@ abbrev pub branch_place : List Label → ℕ → Placed → List Placed → Bran
 branch_place ls n i is (to_label l taken) = slice_get ls l >>= place_by (place_behind (i ∷ is) n l)
 branch_place ls n i is (past_then b) = place_behind_then is (past n i) 0
 branch_place ls n i is (catching_to b l) = slice_get ls l >>= place_by (place_behind (i ∷ is) n l)
+branch_place ls n i is (handling_to t l) = slice_get ls l >>= place_by (place_behind (i ∷ is) n l)
 
 module _ {R : Type 0} (W : World R) (B : Surroundings R) where
   -- how many operands a branch to this label gives it, and how many stand below its frame
@@ -167,7 +195,8 @@ module _ {R : Type 0} (W : World R) (B : Surroundings R) where
   taken_by (func_block n) = option_map (λ g. length g.takes) (type_signature W B n)
 
   -- How many operands a branch keeps, and how many it drops below these: all down to the frame of its label. In code that isn't reached
-  -- there may be fewer than it keeps, and it drops none then. What a `try_table` catches stands on the operands below its own frame.
+  -- there may be fewer than it keeps, and it drops none then. What a `try_table` catches stands on the operands below its own frame, and what
+  -- a handler gets on those below what resumes the continuation takes.
   abbrev pub counts : State R → Branch → Option (ℕ × ℕ)
   counts s (to_label l taken) = do
     x ← label_counts s l
@@ -179,6 +208,10 @@ module _ {R : Type 0} (W : World R) (B : Surroundings R) where
     x ← label_counts s l
     n ← taken_by b
     Some (x.0, length s.operands - n - x.1)
+  counts s (handling_to t l) = do
+    x ← label_counts s l
+    ts ← types_at W B s t
+    Some (x.0, length s.operands - length ts - x.1)
 
   -- the entries of an instruction, before which this state stands, in order
   abbrev pub entries_at : State R → List Label → ℕ → Placed → List Placed → List Branch → Option (List Entry)

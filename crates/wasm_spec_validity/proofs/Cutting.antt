@@ -9,6 +9,7 @@ use Rattle.wasm_spec.specs.Values.{unsigned_at, signed_at, not_negative, u32_at,
 use Rattle.wasm_spec.specs.BinaryTypes.{abstract_heap_from, abstract_heap_at, plain_heap_from, heap_at}
 use Rattle.wasm_spec.proofs.Front.{IsRest, ReadsBy, Reads, reads_none, reads_here, reads_behind, reads_weaken, reads_map, reads_then, reads_value, unsigned-reads, signed-reads, heap-reads}
 use Rattle.wasm_operators.specs.WasmOperatorsPlain.Numeric.{numeric_from, saturating_from}
+use Rattle.wasm_operators.specs.WasmOperatorsAtomic.Wide.{wide_from}
 use Rattle.wasm_operators.specs.WasmOperatorsPlain.Immediates.{one_index, two_indices}
 use Rattle.wasm_operators.specs.WasmOperatorsPlain.Variables.{variable_from}
 use Rattle.wasm_operators.specs.WasmOperatorsPlain.Memories.{access_from}
@@ -21,12 +22,14 @@ use Rattle.wasm_operators.proofs.WasmOperatorsPlain.Fronts.{u32-reads, vector-re
 use Rattle.wasm_operators.specs.Control.{Block, Control, block, loop, if_, br_table, try_table, control_from}
 use Rattle.wasm_operators.specs.declared.control.Catch.{Catch}
 use Rattle.wasm_operators.specs.References.{reference_from}
-use Rattle.wasm_operators.specs.Instructions.{Instruction, control, vector, atomic, with_memarg, with_form, aggregate_from, bulk_from, vectors_from, atomics_from, prefixed_from, plain_from, instruction_at}
+use Rattle.wasm_operators.specs.Instructions.{Instruction, control, vector, atomic, with_memarg, with_form, with_access, is_shared, aggregate_from, bulk_from, vectors_from, atomics_from, prefixed_from, plain_from, instruction_at}
 use Rattle.wasm_operators.specs.WasmOperatorsAtomic.WasmOperatorsVector.Codes as vectors
 use Rattle.wasm_operators.specs.WasmOperatorsAtomic.WasmOperatorsVector.Forms as vector_forms
 use Rattle.wasm_operators.specs.WasmOperatorsAtomic.WasmOperatorsVector.declared.operators.VectorOperator.{VectorOperator}
 use Rattle.wasm_operators.specs.WasmOperatorsAtomic.Codes as atomics
 use Rattle.wasm_operators.specs.WasmOperatorsAtomic.Forms as atomic_forms
+use Rattle.wasm_operators.specs.WasmOperatorsAtomic.SharedCodes as shareds
+use Rattle.wasm_operators.specs.WasmOperatorsAtomic.declared.shared.SharedAtomicOperator.{SharedAtomicOperator}
 use Rattle.wasm_operators.specs.WasmOperatorsAtomic.declared.operators.AtomicOperator.{AtomicOperator}
 use Rattle.wasm_operators.proofs.Fronts.{instruction-reads}
 use Rattle.wasm_operator_steps.specs.ConstantExpressions.{is_constant}
@@ -343,13 +346,17 @@ module _ (F : Features) where
       (ends_if (nat_lt n 20) (ends_map _ (ends_reads (array-reads n bytes)))
       (ends_if (nat_lt n 26) (ends_map _ (ends_never (λ c. no)))
       (ends_if (nat_lt n 32) (ends_value _ (conversion_from n))
-      (ends_map _ (ends_reads (struct-reads n bytes))))))
+      (ends_if (nat_lt n 34) (ends_map _ (ends_reads (struct-reads n bytes)))
+      (ends_map _ (ends_never (λ c. no)))))))
 
   bulk-ends : (n : ℕ) (bytes : List ℕ) → Ends IsConstantOne bytes (bulk_from (λ n. n) n bytes)
   unfolding bulk_from
   bulk-ends n bytes =
       ends_if (nat_lt n 8) (ends_value _ (saturating_from n))
-      (ends_if (nat_lt n 12) (ends_map _ (ends_never (λ c. no))) (ends_map _ (ends_never (λ c. no))))
+      (ends_if (nat_lt n 12) (ends_map _ (ends_never (λ c. no)))
+      (ends_if (nat_lt n 18) (ends_map _ (ends_never (λ c. no)))
+      (ends_if (nat_lt n 19) (ends_map _ (ends_never (λ c. no)))
+      (ends_value _ (wide_from n)))))
 
   vector-ends : (found : Option VectorOperator) (bytes : List ℕ) → Ends IsConstantOne bytes (with_form vector vector_forms.form_of bytes found)
   vector-ends None bytes = ends_none
@@ -359,13 +366,17 @@ module _ (F : Features) where
   atomic-ends None bytes = ends_none
   atomic-ends (Some op) bytes = ends_map _ (ends_never (λ i. no))
 
+  access-ends : (found : Option SharedAtomicOperator) (bytes : List ℕ) → Ends IsConstantOne bytes (with_access bytes found)
+  access-ends None bytes = ends_none
+  access-ends (Some op) bytes = ends_map _ (ends_never (λ i. no))
+
   vectors-ends : (n : ℕ) (bytes : List ℕ) → Ends IsConstantOne bytes (vectors_from (λ n. n) n bytes)
   unfolding vectors_from
   vectors-ends n bytes = ends_if (n == 12) (ends_map _ (ends_reads (vector-reads n bytes))) (vector-ends (vectors.operator_from n) bytes)
 
   atomics-ends : (n : ℕ) (bytes : List ℕ) → Ends IsConstantOne bytes (atomics_from (λ n. n) n bytes)
   unfolding atomics_from
-  atomics-ends n bytes = ends_if (n == 0x72) (ends_value _ (shared_from n)) (atomic-ends (atomics.operator_from n) bytes)
+  atomics-ends n bytes = ends_if (n == 0x72) (ends_value _ (shared_from n)) (ends_if (is_shared n) (access-ends (shareds.shared_operator_from n) bytes) (atomic-ends (atomics.operator_from n) bytes))
 
   prefixed-ends : (b n : ℕ) (bytes : List ℕ) → Ends IsConstantOne bytes (prefixed_from (λ n. n) b n bytes)
   unfolding prefixed_from
@@ -410,13 +421,17 @@ module _ (F : Features) where
         (cuts_if (nat_lt n 20) (cuts_map _ (cuts_any (array-cuts n bytes)))
         (cuts_if (nat_lt n 26) (cuts_map _ (cuts_never (λ c. no)))
         (cuts_if (nat_lt n 32) (cuts_value bytes _ (conversion_from n))
-        (cuts_map _ (cuts_any (struct-cuts n bytes))))))
+        (cuts_if (nat_lt n 34) (cuts_map _ (cuts_any (struct-cuts n bytes)))
+        (cuts_map _ (cuts_never (λ c. no)))))))
 
     bulk-cuts : (n : ℕ) (bytes : List ℕ) → Cuts IsConstantOne more (bulk_from (λ n. n) n bytes) (bulk_from (λ n. n) n (bytes ++ more))
     unfolding bulk_from
     bulk-cuts n bytes =
         cuts_if (nat_lt n 8) (cuts_value bytes _ (saturating_from n))
-        (cuts_if (nat_lt n 12) (cuts_map _ (cuts_never (λ c. no))) (cuts_map _ (cuts_never (λ c. no))))
+        (cuts_if (nat_lt n 12) (cuts_map _ (cuts_never (λ c. no)))
+        (cuts_if (nat_lt n 18) (cuts_map _ (cuts_never (λ c. no)))
+        (cuts_if (nat_lt n 19) (cuts_map _ (cuts_never (λ c. no)))
+        (cuts_value bytes _ (wide_from n)))))
 
     vector-one-cuts : (found : Option VectorOperator) (bytes : List ℕ) → Cuts IsConstantOne more (with_form vector vector_forms.form_of bytes found) (with_form vector vector_forms.form_of (bytes ++ more) found)
     vector-one-cuts None bytes = cuts_none
@@ -426,13 +441,17 @@ module _ (F : Features) where
     atomic-one-cuts None bytes = cuts_none
     atomic-one-cuts (Some op) bytes = cuts_map _ (cuts_never (λ i. no))
 
+    access-one-cuts : (found : Option SharedAtomicOperator) (bytes : List ℕ) → Cuts IsConstantOne more (with_access bytes found) (with_access (bytes ++ more) found)
+    access-one-cuts None bytes = cuts_none
+    access-one-cuts (Some op) bytes = cuts_map _ (cuts_never (λ i. no))
+
     vectors-cuts : (n : ℕ) (bytes : List ℕ) → Cuts IsConstantOne more (vectors_from (λ n. n) n bytes) (vectors_from (λ n. n) n (bytes ++ more))
     unfolding vectors_from
     vectors-cuts n bytes = cuts_if (n == 12) (cuts_map _ (cuts_any (vector-cuts n bytes))) (vector-one-cuts (vectors.operator_from n) bytes)
 
     atomics-cuts : (n : ℕ) (bytes : List ℕ) → Cuts IsConstantOne more (atomics_from (λ n. n) n bytes) (atomics_from (λ n. n) n (bytes ++ more))
     unfolding atomics_from
-    atomics-cuts n bytes = cuts_if (n == 0x72) (cuts_value bytes _ (shared_from n)) (atomic-one-cuts (atomics.operator_from n) bytes)
+    atomics-cuts n bytes = cuts_if (n == 0x72) (cuts_value bytes _ (shared_from n)) (cuts_if (is_shared n) (access-one-cuts (shareds.shared_operator_from n) bytes) (atomic-one-cuts (atomics.operator_from n) bytes))
 
     prefixed-cuts : (b n : ℕ) (bytes : List ℕ) → Cuts IsConstantOne more (prefixed_from (λ n. n) b n bytes) (prefixed_from (λ n. n) b n (bytes ++ more))
     unfolding prefixed_from

@@ -181,6 +181,9 @@ module _ (F : Features) where
   constant-keeps (instruction.cast op) a e = absurd (no a)
   constant-keeps (instruction.vector op values) a e = absurd (no a)
   constant-keeps (instruction.atomic op values) a e = absurd (no a)
+  constant-keeps (instruction.wide op) a e = absurd (no a)
+  constant-keeps (instruction.shared op values) a e = absurd (no a)
+  constant-keeps (instruction.continuation op) a e = absurd (no a)
 
 module _ {R : Type 0} (W : World R) (B : Surroundings R) where
   pub step-keeps : (op : Instruction ℕ) → is_constant B.features op ≡ true → is_end op ≡ false → (s t : State R) → step_in W B op s ≡ Some t → t.frames ≡ s.frames

@@ -201,6 +201,9 @@ module _ (F : Features) (r : List ℕ) where
   constant-allows (instruction.cast op) a n = absurd (no a)
   constant-allows (instruction.vector op values) a n = absurd (no a)
   constant-allows (instruction.atomic op values) a n = absurd (no a)
+  constant-allows (instruction.wide op) a n = absurd (no a)
+  constant-allows (instruction.shared op values) a n = absurd (no a)
+  constant-allows (instruction.continuation op) a n = absurd (no a)
 
 -- a function that is referred to is there
 counted_by : (k n x : ℕ) (b : Bool) → (x == k) ≡ b → (b ≡ false → among x (from_on (suc k) n) ≡ true) → among x (from_on k (suc n)) ≡ true

@@ -56,6 +56,9 @@ module _ {R S : Type 0} (f : R → S) (F : Features) (imported : ℕ) where
   readable-map gs (instruction.array op) = refl
   readable-map gs (instruction.vector op values) = refl
   readable-map gs (instruction.atomic op values) = refl
+  readable-map gs (instruction.wide op) = refl
+  readable-map gs (instruction.shared op values) = refl
+  readable-map gs (instruction.continuation op) = refl
 
 module _ {R S : Type 0} (f : R → S) (W : World R) (V : World S) (h : Renames f W V) (B : Surroundings R) (D : Context S) (imported : ℕ) where
   abbrev E : Surroundings S

@@ -112,6 +112,9 @@ module _ {R : Type 0} (W : World R) (B : Surroundings R) (D : Context R) where
   run_same F (instruction.cast op) h s = absurd (not_both h)
   run_same F (instruction.vector op values) h s = absurd (not_both h)
   run_same F (instruction.atomic op values) h s = absurd (not_both h)
+  run_same F (instruction.wide op) h s = absurd (not_both h)
+  run_same F (instruction.shared op values) h s = absurd (not_both h)
+  run_same F (instruction.continuation op) h s = absurd (not_both h)
 
   step_same : (F : Features) (op : Instruction ℕ) (s : State R) → is_constant F op ≡ true → step_in W (elsewhere B D) op s ≡ step_in W B op s
   step_same F op s h = then_same (guard (is_open s) s) _ _ (run_same F op h)

@@ -6,8 +6,8 @@ use Rattle.wasm_readers_errors.specs.Refusals.{lacking}
 use Rattle.wasm_readers_errors.specs.declared.error.Fault.{Fault}
 use Rattle.wasm_readers_errors.specs.declared.error.Fault.TheVariants.{Group, Descriptor, UnknownType, UnknownTypeWithoutGc}
 use Rattle.wasm_readers_errors.specs.declared.error.Refusal.{Refusal}
-use Rattle.wasm_readers_errors.specs.declared.type_rules.DescriptorRule.TheVariants.{ForwardDescribes}
-use Rattle.wasm_readers_errors.specs.declared.type_rules.GroupRule.TheVariants.{RecGroups, MultipleSupertypes, SupertypeAfterSubtype}
+use Rattle.wasm_readers_errors.specs.WasmReadersFeatures.declared.type_rules.DescriptorRule.TheVariants.{ForwardDescribes}
+use Rattle.wasm_readers_errors.specs.WasmReadersFeatures.declared.type_rules.GroupRule.TheVariants.{RecGroups, MultipleSupertypes, SupertypeAfterSubtype}
 use Rattle.wasm_readers_errors.specs.WasmReadersFeatures.declared.features.TheConstants.WasmFeatures.{GC}
 use Rattle.wasm_readers_types.specs.WasmReadersValues.declared.indices.UnpackedIndex.{UnpackedIndex}
 use Rattle.wasm_readers_types.specs.WasmReadersValues.declared.indices.UnpackedIndex.TheVariants.{Module, RecGroup, Id}

@@ -17,9 +17,9 @@ ghost use Rattle.wasm_operator_validator.specs.Checked.{within, IsRefusedAt, Sta
 use crate::operators::{gated_constant, is_constant, reads_constants};
 use bitflags::Flags;
 use std::alloc::{AllocError, Allocator};
-use wasm_operator_validator::OperatorValidator;
+use wasm_operator_validator::{OperatorValidator, read_served};
 use wasm_operators::operators_plain::VariableOperator;
-use wasm_operators::{Operator, ReferenceOperator, read_operator};
+use wasm_operators::{Operator, ReferenceOperator};
 use wasm_readers::BinaryReader;
 use wasm_readers::readers_errors::{Error, Fault, OperatorRule, Refusal, WasmFeatures};
 use wasm_validator_references::NotesFunctions;
@@ -182,7 +182,7 @@ pub fn check_constant_expression<'a, A: Allocator, T: WasmModuleResources, N: No
 {
     'operators: while !validator.is_finished() {
         let offset = reader.original_position();
-        let op = match read_operator(reader) {
+        let op = match read_served(reader, *validator.features()) {
             Ok(op) => op,
             Err(refusal) => return Err(Error::Refused(refusal)),
         };

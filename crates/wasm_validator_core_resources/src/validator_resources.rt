@@ -217,6 +217,11 @@ impl<A: Allocator + Copy> WasmModuleResources for ValidatorResources<A> {
     }
 
     #[inline]
+    fn sub_type_of_id(&self, id: CoreTypeId) -> Option<&SubType<A>> {
+        self.0.as_ref().type_of(id)
+    }
+
+    #[inline]
     fn sub_type_at_id(&self, id: CoreTypeId) -> &SubType<A> {
         match self.0.as_ref().type_of(id) {
             Some(ty) => ty,

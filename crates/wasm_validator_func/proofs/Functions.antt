@@ -18,7 +18,7 @@ use Rattle.wasm_spec_rules.specs.Signatures.{Signature}
 use Rattle.wasm_spec_rules.specs.Limits.{most_locals}
 use Rattle.wasm_operator_steps.specs.Steps.{start}
 use Rattle.wasm_validator_resources.specs.Answers.{world, sub_in}
-use Rattle.wasm_operator_stacks.specs.Seen.{surroundings}
+use Rattle.wasm_operator_validator.specs.WasmOperatorStacks.Seen.{surroundings}
 use Rattle.wasm_operator_validator.specs.WasmOperatorControl.Blocks.{function_in}
 use Rattle.wasm_operator_validator.specs.Typed.{typed_state, locals_in, parameter, BeginsBody, HasMany}
 use Rattle.wasm_operator_validator.specs.declared.validator.OperatorValidator.{OperatorValidator}

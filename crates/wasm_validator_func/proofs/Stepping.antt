@@ -11,8 +11,8 @@ use Rattle.wasm_operators.specs.Maps.{map_instruction}
 use Rattle.wasm_operator_steps.specs.Machine.{State}
 use Rattle.wasm_operator_steps.specs.Steps.{step_in}
 use Rattle.wasm_validator_resources.specs.Answers.{world, written_index}
-use Rattle.wasm_operator_stacks.specs.Seen.{state_of, around}
-use Rattle.wasm_operator_stacks.specs.declared.stacks.Stacks.{Stacks}
+use Rattle.wasm_operator_validator.specs.WasmOperatorStacks.Seen.{state_of, around}
+use Rattle.wasm_operator_validator.specs.WasmOperatorStacks.declared.stacks.Stacks.{Stacks}
 use Rattle.wasm_operator_validator.specs.WasmOperatorChecks.Steps.{Took}
 use Rattle.wasm_operator_validator.specs.WasmOperatorChecks.Told.{TellsError}
 use Rattle.wasm_operator_validator.specs.WasmOperatorChecks.declared.faults.OperatorError.{OperatorError}

@@ -5,7 +5,7 @@ ghost use Rattle.wasm_readers_bytes.specs.Reader.{SameInput, position_in, rest};
 ghost use Rattle.wasm_readers_errors.specs.Refusals.{plain};
 ghost use Rattle.wasm_parser.specs.Seen.{body_of, body_reader};
 ghost use Rattle.wasm_validator_resources.specs.Answers.{world};
-ghost use Rattle.wasm_operator_stacks.specs.Seen.{Kept};
+ghost use Rattle.wasm_operator_validator.specs.WasmOperatorStacks.Seen.{Kept};
 ghost use Rattle.wasm_operator_validator.specs.Typed.{typed_state, locals_in};
 ghost use Rattle.wasm_operator_validator.specs.Checked.{within, IsRefusedAt, StandsIn, ReadsTo};
 ghost use Rattle.wasm_operator_validator.specs.Reads.{ReadsStep, stepped};

@@ -3,7 +3,7 @@
 ghost use Rattle.std.specs.Prelude.{◌≡◌, ◌<◌, Some, true, false, is_ok, OnOk, OnErr};
 ghost use Rattle.wasm_readers_bytes.specs.Reader.{SameInput, position_in, rest};
 ghost use Rattle.wasm_operator_steps.specs.Steps.{is_finished};
-ghost use Rattle.wasm_operator_stacks.specs.Seen.{Kept};
+ghost use Rattle.wasm_operator_validator.specs.WasmOperatorStacks.Seen.{Kept};
 ghost use Rattle.wasm_operator_validator.specs.Typed.{typed_state};
 ghost use Rattle.wasm_operator_validator.specs.Reads.{stepped};
 

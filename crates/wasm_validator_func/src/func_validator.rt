@@ -8,7 +8,7 @@ ghost use Rattle.wasm_parser.specs.Seen.{body_of, body_reader};
 ghost use Rattle.wasm_readers_types.specs.WasmReadersValues.SeenValues.{val_of};
 ghost use Rattle.wasm_operators.specs.SeenOperators.{operator_of};
 ghost use Rattle.wasm_validator_resources.specs.Answers.{IsWrittenVal};
-ghost use Rattle.wasm_operator_stacks.specs.Seen.{Kept};
+ghost use Rattle.wasm_operator_validator.specs.WasmOperatorStacks.Seen.{Kept};
 ghost use Rattle.wasm_operator_validator.specs.WasmOperatorControl.Blocks.{function_in};
 ghost use Rattle.wasm_operator_validator.specs.Stepped.{IsWrittenInstruction};
 ghost use Rattle.wasm_operator_validator.specs.Visited.{StepsAt};
@@ -22,8 +22,7 @@ ghost use Rattle.wasm_validator_func.specs.Validated.{declaration_of, declared_i
 use crate::bodies::{check_body, refused};
 use crate::locals::{define, read_declarations};
 use std::alloc::{Allocator, Global};
-use wasm_operator_stacks::MAX_LOCALS;
-use wasm_operator_validator::{Frame, OperatorValidator, OperatorValidatorAllocations};
+use wasm_operator_validator::{Frame, MAX_LOCALS, OperatorValidator, OperatorValidatorAllocations};
 use wasm_operators::Operator;
 use wasm_parser::FunctionBody;
 use wasm_readers::BinaryReader;

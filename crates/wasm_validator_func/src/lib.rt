@@ -18,18 +18,21 @@ mod visitors;
 pub use func_validator::{FuncToValidate, FuncValidator, FuncValidatorAllocations, validate_body};
 pub use labels::block_arity;
 pub use laws::bodies_are_declarations_and_instructions;
-pub use next_operator::read_operator;
+pub use next_operator::{read_operator, read_served};
 
 /// Passed on from `wasm_operators`.
 pub mod operators {
-    pub use wasm_operators::operators_atomic::{AtomicOperator, VectorOperator};
+    pub use wasm_operators::operators_atomic::{
+        AtomicOperator, SharedAtomicOperator, VectorOperator,
+    };
     pub use wasm_operators::operators_plain::NumberType;
     pub use wasm_operators::{
-        ArrayOperator, BlockType, BrTable, BulkMemoryOperator, CallOperator, CastOperator, Catch,
-        ConstantOperator, ControlOperator, ConversionOperator, FrameKind, Ieee32, Ieee64,
-        Immediate, ImmediateValues, LegacyOperator, Listed, ListedItems, MemArg, MemoryOperator,
-        NumericOperator, Operator, ParametricOperator, ReferenceOperator, SaturatingOperator,
-        StructOperator, TableOperator, TryTable, V128, VariableOperator, max_align,
+        AccessValues, ArrayOperator, BlockType, BrTable, BulkMemoryOperator, CallOperator,
+        CastOperator, Catch, ConstantOperator, ContinuationOperator, ControlOperator,
+        ConversionOperator, FrameKind, Handle, Ieee32, Ieee64, Immediate, ImmediateValues,
+        LegacyOperator, Listed, ListedItems, MemArg, MemoryOperator, NumericOperator, Operator,
+        Ordering, ParametricOperator, ReferenceOperator, ResumeTable, SaturatingOperator,
+        StructOperator, TableOperator, TryTable, V128, VariableOperator, WideOperator, max_align,
         read_block_type, read_expression, read_memarg,
     };
 }

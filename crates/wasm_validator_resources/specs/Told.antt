@@ -12,10 +12,10 @@ use Rattle.wasm_readers_errors.specs.Refusals.{plain, unless, lack_if}
 use Rattle.wasm_readers_errors.specs.declared.error.Fault.{Fault}
 use Rattle.wasm_readers_errors.specs.declared.error.Fault.TheVariants as fault
 use Rattle.wasm_readers_errors.specs.declared.error.Rule.TheVariants.{Floats, Simd, MultiValue}
-use Rattle.wasm_readers_errors.specs.declared.type_rules.GroupRule.{GroupRule}
-use Rattle.wasm_readers_errors.specs.declared.type_rules.GroupRule.TheVariants.{Arrays, ArrayGcTypes, Structs, StructGcTypes, Continuations, ContinuationGcTypes, FunctionParams, FunctionReturns, StructFields}
-use Rattle.wasm_readers_errors.specs.declared.type_rules.ValueTypeRule.{ValueTypeRule}
-use Rattle.wasm_readers_errors.specs.declared.type_rules.ValueTypeRule.TheVariants.{ReferenceTypes, IndexReferences, ExactReferences, SharedReferences, GcTypes, NonNullable, GcHeapTypes, ExceptionReferences, ContinuationReferences}
+use Rattle.wasm_readers_errors.specs.WasmReadersFeatures.declared.type_rules.GroupRule.{GroupRule}
+use Rattle.wasm_readers_errors.specs.WasmReadersFeatures.declared.type_rules.GroupRule.TheVariants.{Arrays, ArrayGcTypes, Structs, StructGcTypes, Continuations, ContinuationGcTypes, FunctionParams, FunctionReturns, StructFields}
+use Rattle.wasm_readers_errors.specs.WasmReadersFeatures.declared.type_rules.ValueTypeRule.{ValueTypeRule}
+use Rattle.wasm_readers_errors.specs.WasmReadersFeatures.declared.type_rules.ValueTypeRule.TheVariants.{ReferenceTypes, IndexReferences, ExactReferences, SharedReferences, GcTypes, NonNullable, GcHeapTypes, ExceptionReferences, ContinuationReferences}
 use Rattle.wasm_readers_errors.specs.declared.error.Refusal.{Refusal}
 use Rattle.wasm_readers_errors.specs.WasmReadersFeatures.declared.features.WasmFeatures.{WasmFeatures}
 use Rattle.wasm_readers_errors.specs.WasmReadersFeatures.declared.features.TheConstants.WasmFeatures.{REFERENCE_TYPES, FUNCTION_REFERENCES, GC, GC_TYPES, CUSTOM_DESCRIPTORS, SHARED_EVERYTHING_THREADS, EXCEPTIONS, STACK_SWITCHING, FLOATS, SIMD, MULTI_VALUE}

@@ -39,6 +39,11 @@ impl<'a, T: WasmModuleResources> WasmModuleResources for &'a T {
     }
 
     #[inline]
+    fn sub_type_of_id(&self, id: CoreTypeId) -> Option<&SubType<Self::A>> {
+        (**self).sub_type_of_id(id)
+    }
+
+    #[inline]
     fn sub_type_at_id(&self, id: CoreTypeId) -> &SubType<Self::A> {
         (**self).sub_type_at_id(id)
     }
@@ -127,6 +132,11 @@ impl<T: WasmModuleResources, S: Allocator> WasmModuleResources for Rc<T, S> {
     #[inline]
     fn sub_type_at(&self, type_index: u32) -> Option<&SubType<Self::A>> {
         (**self).sub_type_at(type_index)
+    }
+
+    #[inline]
+    fn sub_type_of_id(&self, id: CoreTypeId) -> Option<&SubType<Self::A>> {
+        (**self).sub_type_of_id(id)
     }
 
     #[inline]

@@ -50,6 +50,10 @@ pub trait WasmModuleResources {
     fn sub_type_at(&self, type_index: u32) -> Option<&SubType<Self::A>>
         ensures { option_map (λ t. sub_of t.now) result ≡ sub_in (context self.now) type_index };
 
+    /// The type of an id, if it is known.
+    fn sub_type_of_id(&self, id: CoreTypeId) -> Option<&SubType<Self::A>>
+        ensures { option_map (λ t. sub_of t.now) result ≡ sub_of_id (context self.now) id };
+
     /// The type of an id that is known.
     fn sub_type_at_id(&self, id: CoreTypeId) -> &SubType<Self::A>
         requires { IsSome (sub_of_id (context self.now) id) }

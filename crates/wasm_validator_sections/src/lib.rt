@@ -37,12 +37,13 @@ pub mod validator_func {
 /// Passed on from `wasm_operators`.
 pub mod operators {
     pub use wasm_validator_func::operators::{
-        ArrayOperator, AtomicOperator, BlockType, BrTable, BulkMemoryOperator, CallOperator,
-        CastOperator, Catch, ConstantOperator, ControlOperator, ConversionOperator, FrameKind,
-        Ieee32, Ieee64, Immediate, ImmediateValues, LegacyOperator, Listed, ListedItems, MemArg,
-        MemoryOperator, NumberType, NumericOperator, Operator, ParametricOperator,
-        ReferenceOperator, SaturatingOperator, StructOperator, TableOperator, TryTable, V128,
-        VariableOperator, VectorOperator, max_align, read_block_type, read_expression, read_memarg,
+        AccessValues, ArrayOperator, AtomicOperator, BlockType, BrTable, BulkMemoryOperator,
+        CallOperator, CastOperator, Catch, ConstantOperator, ContinuationOperator, ControlOperator,
+        ConversionOperator, FrameKind, Handle, Ieee32, Ieee64, Immediate, ImmediateValues,
+        LegacyOperator, Listed, ListedItems, MemArg, MemoryOperator, NumberType, NumericOperator,
+        Operator, Ordering, ParametricOperator, ReferenceOperator, ResumeTable, SaturatingOperator,
+        SharedAtomicOperator, StructOperator, TableOperator, TryTable, V128, VariableOperator,
+        VectorOperator, WideOperator, max_align, read_block_type, read_expression, read_memarg,
     };
     pub use wasm_validator_func::read_operator;
 }

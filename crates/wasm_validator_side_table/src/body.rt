@@ -27,7 +27,7 @@ use wasm_parser::FunctionBody;
 use wasm_readers::BinaryReader;
 use wasm_readers_errors::{Error, Fault, OperatorRule, Refusal};
 use wasm_spec_side_tables::{Entry, Place};
-use wasm_validator_func::{FuncToValidate, FuncValidator, FuncValidatorAllocations, read_operator};
+use wasm_validator_func::{FuncToValidate, FuncValidator, FuncValidatorAllocations, read_served};
 use wasm_validator_resources::WasmModuleResources;
 
 /// An entry with the place of its number.
@@ -102,7 +102,7 @@ impl<A: Allocator> SideTable<A> {
         ensures place { IfErr result (StandsIn reader.old) }
     {
         let start = reader.original_position();
-        let op = match read_operator(reader) {
+        let op = match read_served(reader, *validator.features()) {
             Ok(op) => op,
             Err(refusal) => return Err(Error::Refused(refusal)),
         };

@@ -33,7 +33,7 @@ pub(crate) fn count_operands<T: WasmModuleResources, B: Allocator>(
 }
 
 /// An entry whose target is the number of its place.
-fn entry(at: u32, number: u32, kept: usize, dropped: usize) -> Option<Entry>
+pub(crate) fn entry(at: u32, number: u32, kept: usize, dropped: usize) -> Option<Entry>
     ensures { IfSome result (λ e. e ≡ record {
       at = at;
       target = number;

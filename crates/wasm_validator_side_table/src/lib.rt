@@ -10,6 +10,7 @@ mod counts;
 mod error;
 mod fast;
 mod frequent;
+mod handlers;
 mod notes;
 mod table;
 

@@ -133,10 +133,23 @@ impl<A: Allocator> SideTable<A> {
                 from_ref_type: _,
                 to_ref_type: _,
             } => self.branch(validator, at, *relative_depth, 0),
+            CastOperator::BrOnCastDescEq {
+                relative_depth,
+                from_ref_type: _,
+                to_ref_type: _,
+            } => self.branch(validator, at, *relative_depth, 1),
+            CastOperator::BrOnCastDescEqFail {
+                relative_depth,
+                from_ref_type: _,
+                to_ref_type: _,
+            } => self.branch(validator, at, *relative_depth, 1),
             CastOperator::RefTestNonNull { hty: _ }
             | CastOperator::RefTestNullable { hty: _ }
             | CastOperator::RefCastNonNull { hty: _ }
-            | CastOperator::RefCastNullable { hty: _ } => Ok(()),
+            | CastOperator::RefCastNullable { hty: _ }
+            | CastOperator::RefGetDesc { type_index: _ }
+            | CastOperator::RefCastDescEqNonNull { hty: _ }
+            | CastOperator::RefCastDescEqNullable { hty: _ } => Ok(()),
         }
     }
 
@@ -157,6 +170,9 @@ impl<A: Allocator> SideTable<A> {
             Operator::Legacy(op) => self.plan_legacy(validator, at, op),
             Operator::Reference(op) => self.plan_reference(validator, at, op),
             Operator::Cast(op) => self.plan_cast(validator, at, op),
+            Operator::Continuation(continuation) => {
+                self.plan_continuation(validator, at, op, continuation)
+            }
             Operator::Call(_)
             | Operator::Parametric(_)
             | Operator::Variable(_)
@@ -170,7 +186,9 @@ impl<A: Allocator> SideTable<A> {
             | Operator::Struct(_)
             | Operator::Array(_)
             | Operator::Vector(_, _)
-            | Operator::Atomic(_, _) => Ok(()),
+            | Operator::Atomic(_, _)
+            | Operator::Shared(_, _)
+            | Operator::Wide(_) => Ok(()),
         }
     }
 
@@ -240,7 +258,10 @@ impl<A: Allocator> SideTable<A> {
             | Operator::Struct(_)
             | Operator::Array(_)
             | Operator::Vector(_, _)
-            | Operator::Atomic(_, _) => Ok(()),
+            | Operator::Atomic(_, _)
+            | Operator::Shared(_, _)
+            | Operator::Wide(_)
+            | Operator::Continuation(_) => Ok(()),
         }
     }
 

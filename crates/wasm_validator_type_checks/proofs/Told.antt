@@ -13,9 +13,9 @@ use Rattle.wasm_validator_resources.specs.WasmReadersErrors.Refusals.{refused, p
 use Rattle.wasm_validator_resources.specs.WasmReadersErrors.declared.error.Fault.TheVariants as fault
 use Rattle.wasm_validator_resources.specs.WasmReadersErrors.declared.error.Rule.TheVariants.{MultiValue}
 use Rattle.wasm_validator_resources.specs.WasmReadersErrors.declared.error.Refusal.{Refusal}
-use Rattle.wasm_validator_resources.specs.WasmReadersErrors.declared.type_rules.DescriptorRule.TheVariants.{Descriptors, DescriptorOfNonStruct, DescribesOfNonStruct}
-use Rattle.wasm_validator_resources.specs.WasmReadersErrors.declared.type_rules.GroupRule.TheVariants.{FunctionParams, FunctionReturns, StructFields, Subtypes, Arrays, ArrayGcTypes, Structs, StructGcTypes}
-use Rattle.wasm_validator_resources.specs.WasmReadersErrors.declared.type_rules.ValueTypeRule.TheVariants.{ReferenceTypes}
+use Rattle.wasm_validator_resources.specs.WasmReadersErrors.WasmReadersFeatures.declared.type_rules.DescriptorRule.TheVariants.{Descriptors, DescriptorOfNonStruct, DescribesOfNonStruct}
+use Rattle.wasm_validator_resources.specs.WasmReadersErrors.WasmReadersFeatures.declared.type_rules.GroupRule.TheVariants.{FunctionParams, FunctionReturns, StructFields, Subtypes, Arrays, ArrayGcTypes, Structs, StructGcTypes}
+use Rattle.wasm_validator_resources.specs.WasmReadersErrors.WasmReadersFeatures.declared.type_rules.ValueTypeRule.TheVariants.{ReferenceTypes}
 use Rattle.wasm_validator_resources.specs.WasmReadersErrors.WasmReadersFeatures.declared.features.WasmFeatures.{WasmFeatures}
 use Rattle.wasm_validator_resources.specs.WasmReadersErrors.WasmReadersFeatures.declared.features.TheConstants.WasmFeatures.{REFERENCE_TYPES, GC, GC_TYPES, CUSTOM_DESCRIPTORS, MULTI_VALUE}
 use Rattle.wasm_readers_types.specs.declared.types.SubType.{SubType}

@@ -11,11 +11,11 @@ use Rattle.wasm_spec.specs.Declared.{supertype_of}
 use Rattle.wasm_spec.specs.GroupRules.{is_struct}
 use Rattle.wasm_validator_resources.specs.WasmReadersErrors.declared.error.Fault.TheVariants as fault
 use Rattle.wasm_validator_resources.specs.WasmReadersErrors.declared.error.Rule.TheVariants.{Floats, Simd, MultiValue}
-use Rattle.wasm_validator_resources.specs.WasmReadersErrors.declared.type_rules.GroupRule.TheVariants.{Arrays, ArrayGcTypes, Structs, StructGcTypes, Continuations, ContinuationGcTypes, FunctionParams, FunctionReturns, StructFields, SharedComposites, Subtypes}
-use Rattle.wasm_validator_resources.specs.WasmReadersErrors.declared.type_rules.GroupRule.{GroupRule}
-use Rattle.wasm_validator_resources.specs.WasmReadersErrors.declared.type_rules.DescriptorRule.TheVariants.{Descriptors}
-use Rattle.wasm_validator_resources.specs.WasmReadersErrors.declared.type_rules.ValueTypeRule.{ValueTypeRule}
-use Rattle.wasm_validator_resources.specs.WasmReadersErrors.declared.type_rules.ValueTypeRule.TheVariants.{ReferenceTypes, IndexReferences, ExactReferences, SharedReferences, GcTypes, NonNullable, GcHeapTypes, ExceptionReferences, ContinuationReferences}
+use Rattle.wasm_validator_resources.specs.WasmReadersErrors.WasmReadersFeatures.declared.type_rules.GroupRule.TheVariants.{Arrays, ArrayGcTypes, Structs, StructGcTypes, Continuations, ContinuationGcTypes, FunctionParams, FunctionReturns, StructFields, SharedComposites, Subtypes}
+use Rattle.wasm_validator_resources.specs.WasmReadersErrors.WasmReadersFeatures.declared.type_rules.GroupRule.{GroupRule}
+use Rattle.wasm_validator_resources.specs.WasmReadersErrors.WasmReadersFeatures.declared.type_rules.DescriptorRule.TheVariants.{Descriptors}
+use Rattle.wasm_validator_resources.specs.WasmReadersErrors.WasmReadersFeatures.declared.type_rules.ValueTypeRule.{ValueTypeRule}
+use Rattle.wasm_validator_resources.specs.WasmReadersErrors.WasmReadersFeatures.declared.type_rules.ValueTypeRule.TheVariants.{ReferenceTypes, IndexReferences, ExactReferences, SharedReferences, GcTypes, NonNullable, GcHeapTypes, ExceptionReferences, ContinuationReferences}
 use Rattle.wasm_validator_resources.specs.WasmReadersErrors.WasmReadersFeatures.declared.features.TheConstants.WasmFeatures.{REFERENCE_TYPES, FUNCTION_REFERENCES, GC, GC_TYPES, CUSTOM_DESCRIPTORS, SHARED_EVERYTHING_THREADS, EXCEPTIONS, STACK_SWITCHING, FLOATS, SIMD, MULTI_VALUE}
 use Rattle.wasm_validator_resources.specs.WasmReadersErrors.WasmReadersFeatures.On.{has_flag}
 use Rattle.wasm_validator_resources.specs.WasmReadersErrors.Refusals.{plain, unless, lacking, lack_if}

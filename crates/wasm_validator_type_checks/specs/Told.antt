@@ -13,9 +13,9 @@ use Rattle.wasm_validator_resources.specs.WasmSpecRules.FeatureFlags.{features_o
 use Rattle.wasm_validator_resources.specs.WasmReadersErrors.Refusals.{plain, unless, lack_if}
 use Rattle.wasm_validator_resources.specs.WasmReadersErrors.declared.error.Fault.TheVariants.{Group, Descriptor, NotAFunctionId, SubtypesTooDeep}
 use Rattle.wasm_validator_resources.specs.WasmReadersErrors.declared.error.Refusal.{Refusal}
-use Rattle.wasm_validator_resources.specs.WasmReadersErrors.declared.type_rules.DescriptorRule.{DescriptorRule}
-use Rattle.wasm_validator_resources.specs.WasmReadersErrors.declared.type_rules.DescriptorRule.TheVariants.{Descriptors, DescriptorOfNonStruct, DescribesOfNonStruct, SubtypeWithDescriptor, SubtypeWithoutDescriptor, DescribedSupertype, DescriptorSupertype, NonDescriptorSupertype, DescriptorOfNonDescriptor, DescriptorWithoutDescribes, DescribesWithoutDescriptor, DescriptorFinality}
-use Rattle.wasm_validator_resources.specs.WasmReadersErrors.declared.type_rules.GroupRule.TheVariants.{Subtypes, FinalSupertype, SupertypeMatch, SharedComposites, SharedMembers}
+use Rattle.wasm_validator_resources.specs.WasmReadersErrors.WasmReadersFeatures.declared.type_rules.DescriptorRule.{DescriptorRule}
+use Rattle.wasm_validator_resources.specs.WasmReadersErrors.WasmReadersFeatures.declared.type_rules.DescriptorRule.TheVariants.{Descriptors, DescriptorOfNonStruct, DescribesOfNonStruct, SubtypeWithDescriptor, SubtypeWithoutDescriptor, DescribedSupertype, DescriptorSupertype, NonDescriptorSupertype, DescriptorOfNonDescriptor, DescriptorWithoutDescribes, DescribesWithoutDescriptor, DescriptorFinality}
+use Rattle.wasm_validator_resources.specs.WasmReadersErrors.WasmReadersFeatures.declared.type_rules.GroupRule.TheVariants.{Subtypes, FinalSupertype, SupertypeMatch, SharedComposites, SharedMembers}
 use Rattle.wasm_validator_resources.specs.WasmReadersErrors.WasmReadersFeatures.declared.features.WasmFeatures.{WasmFeatures}
 use Rattle.wasm_validator_resources.specs.WasmReadersErrors.WasmReadersFeatures.declared.features.TheConstants.WasmFeatures.{GC, SHARED_EVERYTHING_THREADS, CUSTOM_DESCRIPTORS}
 use Rattle.wasm_readers_types.specs.declared.types.SubType.{SubType}

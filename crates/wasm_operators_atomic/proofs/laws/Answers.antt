@@ -1,5 +1,9 @@
 use Rattle.wasm_operators_atomic.proofs.Tables.{table}
+use Rattle.wasm_operators_atomic.proofs.WideNumbers.{wide_table}
 use Rattle.wasm_operators_atomic.proofs.laws.Goals as goal
 
-pub returns : goal.returns
-returns c = table
+pub returns-clause-atomics : goal.returns-clause-atomics
+returns-clause-atomics c = table
+
+pub returns-clause-wide : goal.returns-clause-wide
+returns-clause-wide c = wide_table

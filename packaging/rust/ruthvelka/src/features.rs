@@ -17,7 +17,7 @@ impl WasmFeatures {
     pub const SIMD: WasmFeatures = WasmFeatures(1 << 4);
     /// shared memories
     pub const THREADS: WasmFeatures = WasmFeatures(1 << 5);
-    /// types, tables and globals that are shared between threads, in part
+    /// types, tables and globals that are shared between threads
     pub const SHARED_EVERYTHING_THREADS: WasmFeatures = WasmFeatures(1 << 6);
     /// floating-point types
     pub const FLOATS: WasmFeatures = WasmFeatures(1 << 7);
@@ -51,6 +51,16 @@ impl WasmFeatures {
     pub const LEGACY_EXCEPTIONS: WasmFeatures = WasmFeatures(1 << 21);
     /// no proposal: the limits of the Rust crate's readers, for hosts that take modules from strangers
     pub const CRATE_LIMITS: WasmFeatures = WasmFeatures(1 << 22);
+    /// sums, differences and products of integers of 128 bits
+    pub const WIDE_ARITHMETIC: WasmFeatures = WasmFeatures(1 << 23);
+    /// memory.discard, which gives up the content of pages
+    pub const MEMORY_CONTROL: WasmFeatures = WasmFeatures(1 << 24);
+    /// ref.get_desc, casts and branches by descriptors; they need CUSTOM_DESCRIPTORS too
+    pub const DESCRIPTOR_OPERATORS: WasmFeatures = WasmFeatures(1 << 25);
+    /// atomic accesses to globals, tables, structures, arrays; they need SHARED_EVERYTHING_THREADS
+    pub const SHARED_ATOMIC_OPERATORS: WasmFeatures = WasmFeatures(1 << 26);
+    /// the operators on continuations; they need STACK_SWITCHING too
+    pub const STACK_SWITCHING_OPERATORS: WasmFeatures = WasmFeatures(1 << 27);
     /// What is on by default: the Core Specification 3.0 without its operators on vectors, but with `v128.const`, and shared memories.
     pub const STANDARD: WasmFeatures = WasmFeatures(
         WasmFeatures::MUTABLE_GLOBAL.0
@@ -91,12 +101,17 @@ impl WasmFeatures {
             | WasmFeatures::COMPONENT_MODEL.0
             | WasmFeatures::VECTOR_OPERATORS.0
             | WasmFeatures::ATOMIC_OPERATORS.0
-            | WasmFeatures::LEGACY_EXCEPTIONS.0,
+            | WasmFeatures::LEGACY_EXCEPTIONS.0
+            | WasmFeatures::WIDE_ARITHMETIC.0
+            | WasmFeatures::MEMORY_CONTROL.0
+            | WasmFeatures::DESCRIPTOR_OPERATORS.0
+            | WasmFeatures::SHARED_ATOMIC_OPERATORS.0
+            | WasmFeatures::STACK_SWITCHING_OPERATORS.0,
     );
 }
 
 /// Each feature by its name.
-pub(crate) const NAMES: [(&str, WasmFeatures); 23] = [
+pub(crate) const NAMES: [(&str, WasmFeatures); 28] = [
     ("MUTABLE_GLOBAL", WasmFeatures::MUTABLE_GLOBAL),
     ("REFERENCE_TYPES", WasmFeatures::REFERENCE_TYPES),
     ("MULTI_VALUE", WasmFeatures::MULTI_VALUE),
@@ -120,4 +135,9 @@ pub(crate) const NAMES: [(&str, WasmFeatures); 23] = [
     ("ATOMIC_OPERATORS", WasmFeatures::ATOMIC_OPERATORS),
     ("LEGACY_EXCEPTIONS", WasmFeatures::LEGACY_EXCEPTIONS),
     ("CRATE_LIMITS", WasmFeatures::CRATE_LIMITS),
+    ("WIDE_ARITHMETIC", WasmFeatures::WIDE_ARITHMETIC),
+    ("MEMORY_CONTROL", WasmFeatures::MEMORY_CONTROL),
+    ("DESCRIPTOR_OPERATORS", WasmFeatures::DESCRIPTOR_OPERATORS),
+    ("SHARED_ATOMIC_OPERATORS", WasmFeatures::SHARED_ATOMIC_OPERATORS),
+    ("STACK_SWITCHING_OPERATORS", WasmFeatures::STACK_SWITCHING_OPERATORS),
 ];

@@ -1,7 +1,7 @@
 use Rattle.std.proofs.Common.{◌≡◌, ◌≤◌, ◌<◌, ◌+◌, Some, None, arith, rules}
 use Rattle.std.proofs.lemmas.Grind.{common_steps}
-use Rattle.wasm_operators_plain.specs.WasmReaders.WasmReadersBytes.Reader.{position_in, rest}
-use Rattle.wasm_operators_plain.specs.WasmReaders.Written.{written}
+use Rattle.wasm_operators_proposals.specs.WasmOperatorsPlain.WasmReaders.WasmReadersBytes.Reader.{position_in, rest}
+use Rattle.wasm_operators_proposals.specs.WasmOperatorsPlain.WasmReaders.Written.{written}
 use Rattle.wasm_operators.specs.Expressions.{nesting_of, depth_after, behind_expression}
 use Rattle.wasm_operators.specs.SeenOperators.{operator_of}
 use Rattle.wasm_operators.proofs.Skipping.{shorter, one_deeper, go_one, end_here, none_here}

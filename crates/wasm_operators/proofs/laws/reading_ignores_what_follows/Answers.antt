@@ -1,4 +1,4 @@
-use Rattle.wasm_operators_plain.proofs.WasmSpec.LawSet.{ignores_what_follows}
+use Rattle.wasm_operators_proposals.proofs.WasmOperatorsPlain.WasmSpec.LawSet.{ignores_what_follows}
 use Rattle.wasm_operators.specs.Instructions.{instruction_at}
 use Rattle.wasm_operators.proofs.Fronts.{instruction-reads}
 use Rattle.wasm_operators.proofs.ExpressionFronts.{expression_ignores_what_follows}

@@ -1,5 +1,5 @@
 use Rattle.wasm_operators.proofs.Prefixes.{no_operator}
-use Rattle.wasm_operators_plain.specs.WasmReaders.WasmReadersBytes.Reader.{rest}
+use Rattle.wasm_operators_proposals.specs.WasmOperatorsPlain.WasmReaders.WasmReadersBytes.Reader.{rest}
 use Rattle.wasm_operators.proofs.operators.read_any.Goals as goal
 
 pub returns-then-opcode-clause-err : goal.returns-then-opcode-clause-err

@@ -1,5 +1,5 @@
 use Rattle.std.proofs.Common.{◌≡◌, ℕ, List, ◌∷◌, true, false, Some, refl}
-use Rattle.wasm_operators_plain.specs.WasmReaders.WasmReadersBytes.Reader.{rest}
+use Rattle.wasm_operators_proposals.specs.WasmOperatorsPlain.WasmReaders.WasmReadersBytes.Reader.{rest}
 use Rattle.wasm_operators.specs.References.{cast_flags_at}
 use Rattle.wasm_operators.proofs.references.read_cast_flags.Goals as goal
 

@@ -1,0 +1,112 @@
+//! Handlers of operators that resume continuations.
+
+ghost use Rattle.std.specs.Prelude.{◌≡◌, ◌∷◌, [], Some, None, is_ok, IfOk, OnErr, map};
+ghost use Rattle.wasm_operator_references.specs.WasmReadersTypes.WasmReadersValues.SeenValues.{val_of};
+ghost use Rattle.wasm_operator_references.specs.WasmOperators.Continuations.{handle_at};
+ghost use Rattle.wasm_operator_references.specs.WasmOperators.SeenLists.{listed};
+ghost use Rattle.wasm_operator_references.specs.WasmOperators.WasmOperatorsProposals.declared.continuations.Handle.TheVariants.{OnLabel, OnSwitch};
+ghost use Rattle.wasm_operator_references.specs.WasmOperatorChecks.WasmValidatorResources.Answers.{signature_seen, tag_in};
+ghost use Rattle.wasm_operator_references.specs.Handled.{all_handled};
+
+use crate::continued::continued_last;
+use crate::given::front_types;
+use std::alloc::Allocator;
+use wasm_operator_control::operator_checks::{OperatorFault, OperatorRule, match_all};
+use wasm_operator_control::operator_stacks::Stacks;
+use wasm_operator_control::operators::{Handle, Listed};
+use wasm_operator_control::readers_types::{FuncType, ValType};
+use wasm_operator_control::validator_resources::WasmModuleResources;
+use wasm_operator_control::{label_types, match_types};
+
+/// The type of the tag of this index.
+pub(crate) fn tag_type<'a, T: WasmModuleResources>(
+    resources: &'a T,
+    tag: u32,
+) -> Result<&'a FuncType<T::A>, OperatorFault>
+    ensures ok { IfOk result (λ f. tag_in (T.context resources.now) tag
+        ≡ Some (signature_seen f.now)) }
+    ensures err { OnErr result (tag_in (T.context resources.now) tag ≡ None) }
+{
+    match resources.tag_at(tag) {
+        Some(signature) => Ok(signature),
+        None => Err(OperatorFault::at(OperatorRule::UnknownTag, tag)),
+    }
+}
+
+/// Whether the label of a handler takes what a suspension by the tag sends: what the tag takes, and
+/// a continuation that goes on from there to these results.
+#[tactic(auto, using(crate::proofs::Handling::handlers))]
+fn check_label<A: Allocator, T: WasmModuleResources>(
+    stacks: &Stacks<A>,
+    resources: &T,
+    results: &[ValType],
+    tag: u32,
+    label: u32,
+) -> Result<(), OperatorFault>
+    ensures { is_ok result ≡ all_handled stacks.now (T.context resources.now)
+        (map val_of results.now) (OnLabel tag label ∷ []) }
+{
+    let suspended = tag_type(resources, tag)?;
+    let types = match label_types(stacks, resources, label) {
+        Some(types) => types,
+        None => return Err(OperatorFault::at(OperatorRule::UnknownLabel, label)),
+    };
+    let continued = match continued_last(resources, types) {
+        Some(signature) => signature,
+        None => return Err(OperatorFault::at(OperatorRule::NoContinuation, label)),
+    };
+    if !match_all(resources, continued.params(), suspended.results())
+        || !match_all(resources, results, continued.results())
+    {
+        return Err(OperatorFault::at(OperatorRule::ContinuationSignatures, label));
+    }
+    if !match_types(resources, suspended.params(), front_types(types)) {
+        return Err(OperatorFault::at(OperatorRule::HandleTypes, label));
+    }
+    Ok(())
+}
+
+/// Whether a switch by the tag may take the place of what gives these results.
+#[tactic(auto, using(crate::proofs::Handling::handlers))]
+fn check_switch<A: Allocator, T: WasmModuleResources>(
+    _stacks: &Stacks<A>,
+    resources: &T,
+    results: &[ValType],
+    tag: u32,
+) -> Result<(), OperatorFault>
+    ensures { is_ok result ≡ all_handled _stacks.now (T.context resources.now)
+        (map val_of results.now) (OnSwitch tag ∷ []) }
+{
+    match tag_type(resources, tag) {
+        Ok(signature) => {
+            if signature.params().is_empty() && match_all(resources, signature.results(), results) {
+                Ok(())
+            } else {
+                Err(OperatorFault::at(OperatorRule::SwitchTag, tag))
+            }
+        }
+        Err(fault) => Err(fault),
+    }
+}
+
+/// Whether each handler suits a continuation that gives these results.
+#[tactic(auto, using(crate::proofs::Handling::lists))]
+pub(crate) fn check_handlers<'a, A: Allocator, T: WasmModuleResources>(
+    stacks: &Stacks<A>,
+    resources: &T,
+    results: &[ValType],
+    handlers: Listed<'a, Handle>,
+) -> Result<(), OperatorFault>
+    ensures { is_ok result ≡ all_handled stacks.now (T.context resources.now)
+        (map val_of results.now) (listed handle_at handlers.entry) }
+{
+    let mut left = handlers.items();
+    'checking: while let Some(handler) = left.next() {
+        let checked = match handler {
+            Handle::OnLabel { tag, label } => check_label(stacks, resources, results, tag, label),
+            Handle::OnSwitch { tag } => check_switch(stacks, resources, results, tag),
+        };
+        checked?;
+    }
+    Ok(())
+}

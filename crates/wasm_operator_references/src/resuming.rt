@@ -1,0 +1,121 @@
+//! Operators that resume a continuation.
+
+ghost use Rattle.std.specs.Prelude.{◌≡◌, [], true, Some, None, IfOk, OnErr};
+ghost use Rattle.wasm_operator_references.specs.WasmReadersTypes.WasmReadersValues.SeenValues.{index_of};
+ghost use Rattle.wasm_operator_references.specs.WasmOperators.Continuations.{resume, resume_throw, resume_throw_ref};
+ghost use Rattle.wasm_operator_references.specs.WasmOperators.SeenContinuations.{handles_of};
+ghost use Rattle.wasm_operator_references.specs.WasmOperatorChecks.WasmOperatorSteps.Shapes.{continuing};
+ghost use Rattle.wasm_operator_references.specs.WasmOperatorChecks.WasmOperatorStacks.Seen.{Kept};
+ghost use Rattle.wasm_operator_references.specs.WasmOperatorChecks.WasmValidatorResources.Answers.{signature_seen};
+ghost use Rattle.wasm_operator_references.specs.WasmOperatorChecks.Steps.{Performs};
+ghost use Rattle.wasm_operator_references.specs.Continued.{continued_at};
+ghost use Rattle.wasm_operator_references.specs.Handled.{all_handled, resumed_at};
+
+use crate::continuations::{Continued, continued};
+use crate::handlers::{check_handlers, tag_type};
+use std::alloc::Allocator;
+use wasm_operator_control::operator_checks::{
+    OperatorError, OperatorFault, OperatorRule, ValTypes, nullable, plain_with,
+};
+use wasm_operator_control::operator_stacks::{Stacks, TypeWord};
+use wasm_operator_control::operators::ResumeTable;
+use wasm_operator_control::readers_types::RefType;
+use wasm_operator_control::val_types_of;
+use wasm_operator_control::validator_resources::WasmModuleResources;
+
+/// The continuation type of this type index, where each handler suits it.
+#[tactic(auto, using(crate::proofs::Continuing::continues))]
+fn resumed<'a, 'b, A: Allocator, T: WasmModuleResources>(
+    stacks: &Stacks<A>,
+    resources: &'a T,
+    type_index: u32,
+    table: ResumeTable<'b>,
+) -> Result<Continued<'a, T::A>, OperatorFault>
+    ensures ok { IfOk result (λ p. (continued_at (T.context resources.now) stacks.now.is_shared
+        type_index ≡ Some (index_of p.0, signature_seen p.1.now))
+        × (all_handled stacks.now (T.context resources.now) (signature_seen p.1.now).gives
+        (handles_of table.entry) ≡ true)) }
+    ensures err { OnErr result (resumed_at stacks.now (T.context resources.now)
+        type_index (handles_of table.entry) ≡ None) }
+{
+    let found = continued(stacks, resources, type_index)?;
+    match check_handlers(stacks, resources, found.1.results(), table.handlers) {
+        Ok(()) => Ok(found),
+        Err(fault) => Err(fault),
+    }
+}
+
+/// `resume`: takes a continuation with its arguments below, and gives its results.
+#[tactic(auto, using(crate::proofs::Continuing::continues))]
+pub(crate) fn resume<'a, A: Allocator, T: WasmModuleResources>(
+    stacks: &mut Stacks<A>,
+    resources: &T,
+    type_index: u32,
+    table: ResumeTable<'a>,
+) -> Result<(), OperatorError>
+    ensures took { Performs result (T.context resources.now)
+        (continuing [] (resume type_index (handles_of table.entry))) stacks.old stacks.new }
+    ensures same { Kept stacks.old stacks.new }
+{
+    match resumed(stacks, resources, type_index, table) {
+        Ok((identity, signature)) => plain_with(
+            stacks,
+            resources,
+            ValTypes::Many(signature.params()),
+            nullable(identity),
+            val_types_of(signature.results()),
+        ),
+        Err(fault) => Err(OperatorError::Refused(fault)),
+    }
+}
+
+/// `resume_throw`: the same with what an exception of the tag holds in the place of the arguments.
+#[tactic(auto, using(crate::proofs::Continuing::continues))]
+pub(crate) fn resume_throw<'a, A: Allocator, T: WasmModuleResources>(
+    stacks: &mut Stacks<A>,
+    resources: &T,
+    type_index: u32,
+    tag_index: u32,
+    table: ResumeTable<'a>,
+) -> Result<(), OperatorError>
+    ensures took { Performs result (T.context resources.now)
+        (continuing [] (resume_throw type_index tag_index (handles_of table.entry))) stacks.old stacks.new }
+    ensures same { Kept stacks.old stacks.new }
+{
+    let (identity, signature) = resumed(stacks, resources, type_index, table)?;
+    let thrown = tag_type(resources, tag_index)?;
+    if !thrown.results().is_empty() {
+        Err(OperatorFault::at(OperatorRule::TagResults, tag_index))?;
+    }
+    plain_with(
+        stacks,
+        resources,
+        ValTypes::Many(thrown.params()),
+        nullable(identity),
+        val_types_of(signature.results()),
+    )
+}
+
+/// `resume_throw_ref`: the same with a reference to an exception, or null.
+#[tactic(auto, using(crate::proofs::Continuing::continues))]
+pub(crate) fn resume_throw_ref<'a, A: Allocator, T: WasmModuleResources>(
+    stacks: &mut Stacks<A>,
+    resources: &T,
+    type_index: u32,
+    table: ResumeTable<'a>,
+) -> Result<(), OperatorError>
+    ensures took { Performs result (T.context resources.now)
+        (continuing [] (resume_throw_ref type_index (handles_of table.entry))) stacks.old stacks.new }
+    ensures same { Kept stacks.old stacks.new }
+{
+    match resumed(stacks, resources, type_index, table) {
+        Ok((identity, signature)) => plain_with(
+            stacks,
+            resources,
+            ValTypes::One(TypeWord::reference(RefType::EXNREF)),
+            nullable(identity),
+            val_types_of(signature.results()),
+        ),
+        Err(fault) => Err(OperatorError::Refused(fault)),
+    }
+}

@@ -1,0 +1,2 @@
+-- What attributes of this crate name.
+unfoldable pub use Rattle.wasm_operators_proposals.specs.WasmOperatorsPlain.Memories.{memarg_at}

@@ -1,0 +1,2 @@
+pub use Rattle.wasm_operators_plain.proofs as WasmOperatorsPlain
+pub mod Listing
