@@ -224,6 +224,32 @@ def numbers():
         off('floats', FLOATS, '', op, name=op.split()[0], after='drop')
 
 
+# The operators of the wide-arithmetic proposal, with how many i64 each takes; each gives two.
+WIDE = {'i64.add128': 4, 'i64.sub128': 4, 'i64.mul_wide_s': 2, 'i64.mul_wide_u': 2}
+
+
+def wide():
+    subject('numbers')
+    for op, count in WIDE.items():
+        operands = ['i64.const 1'] * count
+        body = '; '.join(operands + [op])
+        case('%s gives two i64' % op, body + '; i64.add; drop')
+        case('%s gives two i64 to a local each' % op, body + '; local.set 0; local.set 1', locals='i64 i64')
+        case('%s gives no more than two' % op, body + '; drop; drop; drop')
+        case('%s gives no fewer than two' % op, body + '; drop')
+        case('%s gives no i32 on top' % op, body + '; i32.eqz; drop; drop')
+        case('%s gives no i32 below' % op, body + '; drop; i32.eqz; drop')
+        for place in range(count):
+            case('%s with an i32 as operand %d' % (op, place), '; '.join(operands[:place] + ['i32.const 1'] + operands[place + 1:] + [op, 'drop', 'drop']))
+        case('%s finds one operand too few' % op, '; '.join(operands[1:] + [op, 'drop', 'drop']))
+        case('%s behind unreachable finds what it likes' % op, 'unreachable; %s; i64.add; drop' % op)
+        case('%s behind unreachable with a wrong operand' % op, 'unreachable; f64.const 1; %s; drop; drop' % op)
+        case('%s with the feature that it needs' % op, body + '; i64.add; drop', features='none+wide_arithmetic', wanted='ok')
+        for features in ['all-wide_arithmetic', 'default']:
+            case('%s under %s' % (op, features), body + '; i64.add; drop', features=features,
+                 wanted='refused %d illegal opcode 0xfc %d; missing nothing' % (1 + 2 * count, W.OPERATORS[op][0][1]))
+
+
 LOADS = '''i32.load i 2, i64.load l 3, f32.load f 2, f64.load d 3, i32.load8_s i 0, i32.load8_u i 0, i32.load16_s i 1, i32.load16_u i 1,
 i64.load8_s l 0, i64.load8_u l 0, i64.load16_s l 1, i64.load16_u l 1, i64.load32_s l 2, i64.load32_u l 2'''
 STORES = 'i32.store i 2, i64.store l 3, f32.store f 2, f64.store d 3, i32.store8 i 0, i32.store16 i 1, i64.store8 l 0, i64.store16 l 1, i64.store32 l 2'
@@ -280,6 +306,25 @@ def memories():
     for op in ['memory.init 0 0', 'memory.copy 0 0', 'memory.fill 0']:
         off('bulk_memory', BULK, 'i32.const 1; i32.const 1; i32.const 1', op, name=op.split()[0])
     off('bulk_memory', BULK, '', 'data.drop 0', name='data.drop')
+
+
+def discards():
+    """`memory.discard` of the memory-control proposal: an address and a length of the memory's address type."""
+    subject('memories')
+    case('memory.discard of either memory', 'i32.const 1; i32.const 1; memory.discard 0; i64.const 1; i64.const 1; memory.discard 1')
+    for mem, right, wrong in [(0, 'i32.const 1', 'i64.const 1'), (1, 'i64.const 1', 'i32.const 1')]:
+        case('memory.discard %d at another address' % mem, '%s; %s; memory.discard %d' % (wrong, right, mem))
+        case('memory.discard %d of another length' % mem, '%s; %s; memory.discard %d' % (right, wrong, mem))
+        case('memory.discard %d without an address' % mem, '%s; memory.discard %d' % (right, mem))
+        case('memory.discard %d gives nothing' % mem, '%s; %s; memory.discard %d; drop' % (right, right, mem))
+    case('memory.discard of no memory', 'i32.const 1; i32.const 1; memory.discard 2')
+    case('memory.discard of the greatest index', 'i32.const 1; i32.const 1; memory.discard 0xffffffff')
+    case('memory.discard of an index past 32 bits', '', raw=bytes.fromhex('0041014101fc12ffffffff1f0b'), told='')
+    case('memory.discard behind unreachable', 'unreachable; memory.discard 0')
+    case('memory.discard needs no bulk_memory', 'i32.const 1; i32.const 1; memory.discard 0', features='all-bulk_memory', wanted='ok')
+    for features in ['all-memory_control', 'default']:
+        case('memory.discard under %s' % features, 'i32.const 1; i32.const 1; memory.discard 0', features=features,
+             wanted='refused 5 illegal opcode 0xfc 18; missing nothing')
 
 
 REFS = 'reference types support is not enabled'
@@ -424,7 +469,8 @@ def control():
     case('a body without end', '', raw=b'\0\x01', wanted='refused')
     case('a body without bytes', '', raw=b'', wanted='refused')
     case('an unknown opcode', '', raw=b'\0\xff\x0b', wanted='refused 1 illegal opcode 0xff')
-    case('an unknown opcode behind a prefix', '', raw=b'\0\xfc\x13\x0b', wanted='refused 1 illegal opcode 0xfc 19')
+    case('an unknown opcode behind a prefix', '', raw=b'\0\xfc\x17\x0b', wanted='refused 1 illegal opcode 0xfc 23')
+    case('an opcode behind a prefix whose feature is off', '', features='default', raw=b'\0\xfc\x13\x0b', wanted='refused 1 illegal opcode 0xfc 19')
     case('an opcode that was removed, 06', '', features='default', raw=b'\0\x06\x40\x0b\x0b', wanted='refused 1 illegal opcode 0x06')
     case('an immediate that is cut off', '', raw=b'\0\x41')
     case('a body that leaves a value', 'i32.const 1')
@@ -1078,7 +1124,7 @@ def wanted_of(answers, type_index, body, told):
 
 
 def main():
-    for part in [numbers, memories, tables, variables, control, references, abstract_casts, continuation_branches, unreached, aggregates, proposals, legacy, scored]:
+    for part in [numbers, wide, memories, discards, tables, variables, control, references, abstract_casts, continuation_branches, unreached, aggregates, proposals, legacy, scored]:
         part()
     answers = Answers()
     files, lacking = {}, []

@@ -10,7 +10,7 @@ import re
 import sys
 
 ROOT = os.path.dirname(os.path.dirname(os.path.abspath(__file__)))
-MOST_WALKS, MOST_CRATES, MOST_LINES, MOST_FUNCTIONS = 3_400, 74, 1_500, 110
+MOST_WALKS, MOST_CRATES, MOST_LINES, MOST_FUNCTIONS = 3_400, 75, 1_500, 110
 ALL, MOST_WALKS_OF_ALL = "test_all", 9_200
 # What is passed on for users alone: the condition of `FuncValidator::op`, which their contracts name.
 FOR_USERS = {("wasm_validator_func", "specs/Stepped")}

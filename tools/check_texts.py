@@ -9,7 +9,7 @@ import re
 import sys
 
 ROOT = os.path.dirname(os.path.dirname(os.path.abspath(__file__)))
-SOURCES = ["crates/wasm_readers_errors/src/*.rt", "crates/wasm_validator_core/src/error.rt"]
+SOURCES = ["crates/wasm_readers_errors/src/*.rt", "crates/wasm_readers_features/src/*_rules.rt", "crates/wasm_validator_core/src/error.rt"]
 ROWS = "crates/test_all/data/*/*.rows"
 TESTS = ["crates/test_*/src/*.rt", "tests/**/*.rt*"]
 # What no call of the public ones can make the crates print, and why.

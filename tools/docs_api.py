@@ -69,13 +69,13 @@ GROUPS = [
     ("items", "Tables, globals and segments", ["wasm_items/tables", "wasm_items/globals", "wasm_items/elements", "wasm_items/data"]),
     ("items", "Bodies and their locals", ["wasm_parser/function_body", "wasm_parser/locals"]),
     ("items", "Single types", ["wasm_readers/types", "wasm_readers/defined_types", "wasm_readers/externs", "wasm_readers/lists"]),
-    ("operators", "Expressions", ["wasm_items/const_expr", "wasm_items/operators_reader", "wasm_operators/expressions", "wasm_operators/lists"]),
+    ("operators", "Expressions", ["wasm_items/const_expr", "wasm_items/operators_reader", "wasm_operators/expressions", "wasm_operators_proposals/lists"]),
     ("operators", "All operators", ["wasm_operators/operators", "wasm_validator_func/next_operator"]),
-    ("operators", "Families of operators", ["wasm_operators", "wasm_operators_plain", "wasm_operators_vector", "wasm_operators_atomic"]),
+    ("operators", "Families of operators", ["wasm_operators", "wasm_operators_plain", "wasm_operators_vector", "wasm_operators_atomic", "wasm_operators_proposals"]),
     ("operators", "How many operands an operator takes and gives", ["wasm_operator_arity"]),
     ("validate", "Whole modules and lists of modules", ["wasm_validator_modules/payload", "wasm_validator/list"]),
     ("validate", "Payload by payload", ["wasm_validator_modules"]),
-    ("validate", "Features", ["wasm_readers_features"]),
+    ("validate", "Features", ["wasm_readers_features/features"]),
     (
         "validate",
         "Bodies",
@@ -102,7 +102,7 @@ GROUPS = [
     ("types", "Matching", ["wasm_validator_matches"]),
     ("errors", "Errors and refusals", ["wasm_validator_core/error", "Error", "BodyError", "Refusal", "Fault"]),
     ("errors", "Faults of the format", ["Malformed", "Integer", "OutOfOrder"]),
-    ("errors", "Broken rules", ["wasm_readers_errors"]),
+    ("errors", "Broken rules", ["wasm_readers_errors", "wasm_readers_features/operator_rules", "wasm_readers_features/type_rules"]),
 ]
 
 
@@ -392,7 +392,8 @@ def declaration(item):
 def with_message(item, row):
     """A variant of a fault with the message that it prints, where that is one text."""
     variant = re.match(r"    (\w+)(?:\([^)]*\))?,$", row)
-    found = item.path.startswith("crates/wasm_readers_errors/") and variant and re.search(rf'\b{item.name}::{variant[1]}(?:\(_\))? =>\s*"([^"]*)"', "\n".join(item.rows))
+    is_rule = item.path.startswith(("crates/wasm_readers_errors/", "crates/wasm_readers_features/"))
+    found = is_rule and variant and re.search(rf'\b{item.name}::{variant[1]}(?:\(_\))? =>\s*"([^"]*)"', "\n".join(item.rows))
     return f"{row} // {found[1]}" if found else row
 
 

@@ -193,7 +193,8 @@ class Limits:
             it = library.find_name(top, name)
             if isinstance(it, Item) and it.kind == "const":
                 self.constants[it.path, it.name] = name
-        self.errors = "\n".join(tree.read(it) for it in tree.files("crates/wasm_readers_errors/src", ending=".rt"))
+        folders = ("crates/wasm_readers_errors/src", "crates/wasm_readers_features/src")
+        self.errors = "\n".join(tree.read(it) for folder in folders for it in tree.files(folder, ending=".rt"))
 
     def source(self, file):
         crate, _, rest = file.partition("/")

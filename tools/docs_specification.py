@@ -47,13 +47,15 @@ CHAPTERS = [
         "wasm_operators_plain/Immediates wasm_operators_plain/Opcodes wasm_operators_plain/Numeric wasm_operators_plain/Constants "
         "wasm_operators_plain/Variables wasm_operators_plain/Calls "
         "wasm_operators_plain/Tables wasm_operators_plain/Memories wasm_operators_plain/Structs wasm_operators_plain/Arrays "
-        "wasm_operators_plain/Conversions wasm_operators_vector/Tables wasm_operators_vector/Codes wasm_operators_atomic/Codes wasm_operators/FormImmediates "
+        "wasm_operators_plain/Conversions wasm_operators_vector/Tables wasm_operators_vector/Codes wasm_operators_atomic/Codes wasm_operators_atomic/Wide "
+        "wasm_operators_atomic/SharedCodes wasm_operators_proposals/Accesses wasm_operators_proposals/Continuations wasm_operators/FormImmediates "
         "wasm_operators/Control wasm_operators/References wasm_operators/Legacy wasm_operators/Instructions wasm_operator_steps/Sequences",
     ),
     (
         "Instructions: the table",
         "What each instruction checks, takes and gives: once, for the rules and for the algorithm.",
-        "wasm_operators_plain/Signatures wasm_operators_vector/Forms wasm_operators_atomic/Forms wasm_operator_steps/Actions wasm_operator_steps/Forms "
+        "wasm_operators_plain/Signatures wasm_operators_vector/Forms wasm_operators_atomic/Forms wasm_operators_atomic/SharedForms "
+        "wasm_operator_steps/Actions wasm_operator_steps/Forms "
         "wasm_operator_steps/Shapes wasm_operator_steps/ConstantExpressions",
     ),
     (
@@ -96,6 +98,10 @@ ALGORITHM = "Instructions: the algorithm of the standard's appendix"
 SECTIONS = {
     "wasm_operators_atomic/Codes": MEMORY,
     "wasm_operators_atomic/Forms": THREADS,
+    "wasm_operators_atomic/SharedCodes": "Shared-Everything Threads, Binary Format",
+    "wasm_operators_atomic/SharedForms": "Shared-Everything Threads, Validation",
+    "wasm_operators_proposals/Accesses": "Shared-Everything Threads, Binary Format",
+    "wasm_operators_proposals/Continuations": "Stack Switching, Binary Format",
     "wasm_operators_plain/Opcodes": "Binary Format, Instructions",
     "wasm_operators_vector/Tables": BINARY,
     "wasm_operators/Legacy": "the legacy exception-handling proposal, Binary Format",

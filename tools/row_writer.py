@@ -1,12 +1,13 @@
 """What the tools that write rows have in common: each makes whole files of rows as texts, and this writes or compares them."""
 import os
+import re
 import sys
 
 # All that the tools write. bin/test calls these tools again where one of these files has changed, or what else they read.
 WRITTEN = (
     "bodies/aggregates.rows", "bodies/atomics.rows", "bodies/control.rows", "bodies/features.rows", "bodies/legacy_exceptions.rows",
     "bodies/memories.rows", "bodies/numbers.rows", "bodies/references.rows", "bodies/tables.rows", "bodies/variables.rows", "bodies/vectors.rows",
-    "modules/bodies.rows", "modules/constants.rows", "modules/fronts.rows", "modules/lists.rows", "modules/states.rows",
+    "modules/bodies.rows", "modules/constants.rows", "modules/continuations.rows", "modules/descriptors.rows", "modules/fronts.rows", "modules/lists.rows", "modules/shared.rows", "modules/states.rows",
 )
 HEAD = "modules/modules.rows"
 DATA = os.path.join(os.path.dirname(os.path.dirname(os.path.abspath(__file__))), "crates", "test_all", "data")
@@ -32,6 +33,22 @@ def read(path):
             return it.read()
     except OSError:
         return ""
+
+
+def wanted_of(answer, title, named, said):
+    """What a row wants by the Rust crate's answer, whose texts may differ: `said` has theirs and ours. They name types `$type` alone or not
+    at all, where ours have them by number; `named` has the numbers, by what the title has."""
+    if answer.verdict != "refused":
+        return "ok" if answer.verdict == "ok" else None
+    text = (answer.message or "").replace("unknown type:", "unknown type $index:")
+    if "$" in text:
+        found = next(it for it in ((re.search(has, title), ids) for has, ids in named) if it[0])
+        for number in found[0].expand(found[1]).split():
+            text = text.replace("$type", f"(id {number})", 1).replace("$index", number)
+    for theirs, ours in said:
+        match = re.fullmatch(theirs, text)
+        text = match.expand(ours) if match else text
+    return f"refused {answer.offset} {text}"
 
 
 def main(files, lacking, words):

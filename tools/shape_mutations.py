@@ -190,8 +190,10 @@ TOP = {k: v[-1] if v else k for k, v in ABOVE.items()}
 NUMBER = {0x7f: 'i32', 0x7e: 'i64', 0x7d: 'f32', 0x7c: 'f64', 0x7b: 'v128', 0x78: 'i8', 0x77: 'i16'}
 PROPOSALS = '''mutable_global reference_types multi_value bulk_memory simd threads shared_everything_threads floats multi_memory exceptions memory64
 extended_const function_references gc gc_types custom_page_sizes custom_descriptors stack_switching component_model
-vector_operators atomic_operators legacy_exceptions'''.split()
-OFF = ['shared_everything_threads', 'custom_descriptors', 'stack_switching', 'custom_page_sizes', 'component_model', 'vector_operators', 'atomic_operators', 'legacy_exceptions']
+vector_operators atomic_operators legacy_exceptions wide_arithmetic memory_control descriptor_operators shared_atomic_operators
+stack_switching_operators'''.split()
+OFF = ['shared_everything_threads', 'custom_descriptors', 'stack_switching', 'custom_page_sizes', 'component_model', 'vector_operators', 'atomic_operators', 'legacy_exceptions',
+       'wide_arithmetic', 'memory_control', 'descriptor_operators', 'shared_atomic_operators', 'stack_switching_operators']
 
 
 def features_of(text):
@@ -533,8 +535,14 @@ def instruction(r):
     return by_name(r, W.BY_CODE[key][0])
 
 
+# those that a feature of their own serves, which is off in all of these rows
+NOT_SERVED = r'memory\.discard|i64\.(add128|sub128|mul_wide_[su])|ref\.get_desc|(ref\.cast|br_on_cast)_desc_eq.*'
+
+
 def by_name(r, name):
     kinds = W.OPERATORS[name][1]
+    if re.fullmatch(NOT_SERVED, name):
+        raise Refused('no operator without its feature')
     if name in SIGNATURES:
         return 'computing', SIGNATURES[name]
     if 'mem' in kinds:

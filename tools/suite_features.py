@@ -290,6 +290,8 @@ class Scan:
         if code in LEGACY:
             self.need("legacy_exceptions", "exceptions")
             return self.immediates("legacy", LEGACY[code])
+        if 0xE0 <= code <= 0xE6:
+            return self.continuation(code)
         key = bytes([code])
         if code in (0xFB, 0xFC, 0xFD, 0xFE):
             start = self.at
@@ -299,6 +301,8 @@ class Scan:
             key += self.b[start:self.at]
             if code == 0xFC and number < 8:
                 self.need("saturating_float_to_int")
+            if code == 0xFC and number >= 18:
+                self.need("memory_control" if number == 18 else "wide_arithmetic")
         if key not in BY_CODE:
             raise Bad("no operator")
         name, kinds = BY_CODE[key]
@@ -310,11 +314,21 @@ class Scan:
             self.need("gc", "reference_types")
         if name in ("ref.test", "ref.cast", "br_on_cast", "br_on_cast_fail"):
             self.need("function_references")
+        if name.startswith(("ref.get_desc", "ref.cast_desc_eq", "br_on_cast_desc_eq")):
+            self.need("function_references", "custom_descriptors")
         if 0xC0 <= code <= 0xC4:
             self.need("sign_extension")
         if is_constant and re.fullmatch(r"i\d\d\.(add|sub|mul)", name):
             self.need("extended_const")
         return self.immediates(name, kinds, is_constant)
+
+    def continuation(self, code):
+        """An operator on continuations: one index or two, and its handlers."""
+        self.need("stack_switching")
+        for _ in range(2 if code in (0xE1, 0xE4, 0xE6) else 1):
+            self.number()
+        if 0xE3 <= code <= 0xE5:
+            self.each(lambda: [self.number() for _ in range(2 if self.byte() == 0 else 1)])
 
     def prefixed(self, code, number):
         if code == 0xFB:
@@ -322,6 +336,10 @@ class Scan:
             return self.immediates("struct.new_desc", ("u",))
         if (code, number) == (0xFE, 0x72):
             return self.need("gc", "reference_types", "shared_everything_threads")
+        if code == 0xFE and (number == 4 or 0x4F <= number < 0x72):
+            # atomic accesses to globals, tables, structures and arrays: an ordering and an index, and a structure's field; `pause` has none
+            self.need("shared_everything_threads")
+            return self.immediates("", () if number == 4 else ("u", "u", "u") if 0x5C <= number < 0x67 else ("u", "u"))
         if (code, number) not in PREFIXED:
             raise Bad("no operator")
         self.need("threads" if code == 0xFE else "simd")
@@ -359,7 +377,8 @@ class Scan:
 
     def index(self, name, place, is_constant):
         value = self.number()
-        of_memory = (name, place) in (("memory.size", 0), ("memory.grow", 0), ("memory.fill", 0), ("memory.init", 1), ("memory.copy", 0), ("memory.copy", 1))
+        of_memory = (name, place) in (("memory.size", 0), ("memory.grow", 0), ("memory.fill", 0), ("memory.init", 1), ("memory.copy", 0), ("memory.copy", 1),
+                                      ("memory.discard", 0))
         if value and of_memory:
             self.need("multi_memory")
         if value and (name, place) in (("call_indirect", 1), ("return_call_indirect", 1)):

@@ -216,6 +216,11 @@ define(b"\xfc", """
 15 table.grow u
 16 table.size u
 17 table.fill u
+18 memory.discard u
+19 i64.add128
+20 i64.sub128
+21 i64.mul_wide_s
+22 i64.mul_wide_u
 """)
 define(b"\xfb", """
 0 struct.new u
@@ -249,6 +254,11 @@ define(b"\xfb", """
 28 ref.i31
 29 i31.get_s
 30 i31.get_u
+34 ref.get_desc u
+35 ref.cast_desc_eq ht
+36 ref.cast_desc_eq_null ht
+37 br_on_cast_desc_eq cast
+38 br_on_cast_desc_eq_fail cast
 """)
 OPERATORS["v128.const"] = (b"\xfd\x0c", ("v128",))
 CATCHES = {"catch": 0, "catch_ref": 1, "catch_all": 2, "catch_all_ref": 3}
