@@ -11,7 +11,7 @@ use Rattle.wasm_operators_proposals.specs.WasmOperatorsPlain.Memories.{access_fr
 use Rattle.wasm_operators_proposals.specs.WasmOperatorsPlain.Conversions.{conversion_from, shared_from}
 use Rattle.wasm_operators_proposals.specs.WasmOperatorsPlain.declared.memories.MemoryOperator.{MemoryOperator}
 use Rattle.wasm_operators_proposals.proofs.WasmOperatorsPlain.Fronts.{u32-reads, one_index-reads, two_indices-reads, memarg-reads, call-reads, variable-reads, table_access-reads, table-reads, memory_size-reads, memory-reads, constant-reads, bits_128-reads, vector-reads, struct-reads, array-reads}
-use Rattle.wasm_operators.specs.References.{cast_flags_from, cast_flags_at, branch_at, reference_from, cast_from}
+use Rattle.wasm_operators.specs.References.{cast_flags_from, cast_flags_at, branch_at, reference_from, described_from, cast_from}
 use Rattle.wasm_operators.specs.Control.{catch_at, br_table_at, try_table_at, block_at, control_from, parametric_from}
 use Rattle.wasm_operators_proposals.specs.WasmOperatorsPlain.declared.memories.MemArg.{MemArg}
 use Rattle.wasm_operators_proposals.specs.WasmOperatorsAtomic.WasmOperatorsVector.Codes as vectors
@@ -23,14 +23,11 @@ use Rattle.wasm_operators_proposals.specs.WasmOperatorsAtomic.WasmOperatorsVecto
 use Rattle.wasm_operators_proposals.specs.WasmOperatorsAtomic.Codes as atomics
 use Rattle.wasm_operators_proposals.specs.WasmOperatorsAtomic.Forms as atomic_forms
 use Rattle.wasm_operators.specs.declared.immediates.ImmediateValues.{ImmediateValues}
-use Rattle.wasm_operators.specs.FormImmediates.{zero_at, values_at, behind_memarg, place_at, immediates_at}
+use Rattle.wasm_operators.specs.FormImmediates.{zero_at, values_at, behind_memarg, immediates_at}
 use Rattle.wasm_operators_proposals.specs.WasmOperatorsAtomic.SharedCodes as shareds
 use Rattle.wasm_operators_proposals.specs.WasmOperatorsAtomic.SharedForms as shared_forms
 use Rattle.wasm_operators_proposals.specs.WasmOperatorsAtomic.declared.shared.SharedAtomicOperator.{SharedAtomicOperator}
-use Rattle.wasm_operators_proposals.specs.WasmOperatorsAtomic.declared.shared_forms.SharedForm.{SharedForm}
-use Rattle.wasm_operators_proposals.specs.WasmOperatorsAtomic.declared.shared_forms.SharedForm.TheVariants as shared_form
-use Rattle.wasm_operators.specs.WasmOperatorsProposals.declared.accesses.Ordering.{Ordering}
-use Rattle.wasm_operators_proposals.specs.Accesses.{ordering_from, ordering_at, field_behind, place_of, access_values_at}
+use Rattle.wasm_operators_proposals.proofs.Fronts.{access_values-reads, continuation-reads}
 use Rattle.wasm_operators.specs.Instructions.{with_memarg, with_form, with_access, is_shared, aggregate_from, bulk_from, vectors_from, atomics_from, prefixed_from, plain_from, instruction_at}
 use Rattle.wasm_operators.specs.Legacy.{legacy_from}
 
@@ -84,26 +81,7 @@ module _ {more : List ℕ} where
   with_form-reads op form None bytes = reads_none
   with_form-reads op form (Some x) bytes = reads_map _ (immediates-reads (form x) bytes)
 
-  -- immediates of atomic accesses
-  ordering-reads : (bytes : List ℕ) → Reads more 1 bytes (ordering_at bytes) (ordering_at (bytes ++ more))
-  ordering-reads bytes = reads_then _ (u32-reads bytes) (λ n. reads_value (λ o. o) (ordering_from n.0))
-
-  field-reads : (has_field : Bool) (o : Ordering) (x : ℕ) (bytes : List ℕ) → Reads more 0 bytes (field_behind has_field o x bytes) (field_behind has_field o x (bytes ++ more))
-  field-reads true o x bytes = reads_weaken (reads_map _ (u32-reads bytes))
-  field-reads false o x bytes = reads_here
-
-  place-reads : (has_field : Bool) (bytes : List ℕ) → Reads more 0 bytes (place_of has_field bytes) (place_of has_field (bytes ++ more))
-  place-reads has_field bytes = reads_weaken (reads_then _ (ordering-reads bytes) (λ o. reads_then _ (u32-reads o.1) (λ x. field-reads has_field o.0 x.0 x.1)))
-
-  access_values-reads : (f : SharedForm) (bytes : List ℕ) → Reads more 0 bytes (access_values_at f bytes) (access_values_at f (bytes ++ more))
-  access_values-reads shared_form.Pause bytes = reads_here
-  access_values-reads (shared_form.Global a) bytes = place-reads false bytes
-  access_values-reads (shared_form.Table a) bytes = place-reads false bytes
-  access_values-reads (shared_form.Field a) bytes = place-reads true bytes
-  access_values-reads shared_form.PackedField bytes = place-reads true bytes
-  access_values-reads (shared_form.Element a) bytes = place-reads false bytes
-  access_values-reads shared_form.PackedElement bytes = place-reads false bytes
-
+  -- an atomic access
   with_access-reads : {R : Type 0} (found : Option SharedAtomicOperator) (bytes : List ℕ) → Reads more 0 bytes (with_access {R = R} bytes found) (with_access {R = R} (bytes ++ more) found)
   with_access-reads None bytes = reads_none
   with_access-reads (Some op) bytes = reads_map _ (access_values-reads (shared_forms.shared_form_of op) bytes)
@@ -179,6 +157,16 @@ module _ {more : List ℕ} where
         (reads_if (b == 0xd6) (one_index-reads _ bytes)
         reads_none))))))
 
+    described-reads : (n : ℕ) (bytes : List ℕ) → Reads more 0 bytes (described_from to n bytes) (described_from to n (bytes ++ more))
+    unfolding described_from
+    described-reads n bytes =
+        reads_if (n == 34) (one_index-reads _ bytes)
+        (reads_if (n == 35) (reads_weaken (reads_map _ (heap-reads to bytes)))
+        (reads_if (n == 36) (reads_weaken (reads_map _ (heap-reads to bytes)))
+        (reads_if (n == 37) (reads_weaken (reads_map _ (branch-reads bytes)))
+        (reads_if (n == 38) (reads_weaken (reads_map _ (branch-reads bytes)))
+        reads_none))))
+
     cast-reads : (n : ℕ) (bytes : List ℕ) → Reads more 0 bytes (cast_from to n bytes) (cast_from to n (bytes ++ more))
     unfolding cast_from
     cast-reads n bytes =
@@ -188,9 +176,7 @@ module _ {more : List ℕ} where
         (reads_if (n == 23) (reads_weaken (reads_map _ (heap-reads to bytes)))
         (reads_if (n == 24) (reads_weaken (reads_map _ (branch-reads bytes)))
         (reads_if (n == 25) (reads_weaken (reads_map _ (branch-reads bytes)))
-        (reads_if (n == 35) (reads_weaken (reads_map _ (heap-reads to bytes)))
-        (reads_if (n == 36) (reads_weaken (reads_map _ (heap-reads to bytes)))
-        reads_none)))))))
+        (described-reads n bytes))))))
 
     aggregate-reads : (n : ℕ) (bytes : List ℕ) → Reads more 0 bytes (aggregate_from to n bytes) (aggregate_from to n (bytes ++ more))
     unfolding aggregate_from
@@ -242,7 +228,8 @@ module _ {more : List ℕ} where
         (reads_if (nat_lt b 0x41) (reads_map _ (memory_size-reads b bytes))
         (reads_if (nat_lt b 0x45) (reads_map _ (constant-reads b bytes))
         (reads_if (nat_lt b 0xd0) (reads_value _ (numeric_from b))
-        (reads_map _ (reference-reads b bytes))))))))))))))))
+        (reads_if (nat_lt b 0xe0) (reads_map _ (reference-reads b bytes))
+        (reads_map _ (continuation-reads b bytes)))))))))))))))))
 
     prefixed-reads : (b n : ℕ) (bytes : List ℕ) → Reads more 0 bytes (prefixed_from to b n bytes) (prefixed_from to b n (bytes ++ more))
     unfolding prefixed_from

@@ -12,11 +12,10 @@ use Rattle.wasm_operators_proposals.specs.WasmOperatorsPlain.Constants.{constant
 use Rattle.wasm_operators_proposals.specs.WasmOperatorsPlain.Structs.{struct_from}
 use Rattle.wasm_operators_proposals.specs.WasmOperatorsPlain.Arrays.{array_from}
 use Rattle.wasm_operators_proposals.specs.WasmOperatorsPlain.Conversions.{conversion_from, shared_from}
-use Rattle.wasm_operators.specs.References.{cast_flags_at, branch_at, reference_from, cast_from}
+use Rattle.wasm_operators.specs.References.{cast_flags_at, branch_at, reference_from, described_from, cast_from}
 use Rattle.wasm_operators.specs.Control.{catch_at, br_table_at, try_table_at, block_at, control_from, parametric_from}
 use Rattle.wasm_operators_proposals.specs.WasmOperatorsAtomic.WasmOperatorsVector.Codes as vectors
 use Rattle.wasm_operators_proposals.specs.WasmOperatorsAtomic.WasmOperatorsVector.Forms as vector_forms
-use Rattle.wasm_operators_proposals.specs.WasmOperatorsAtomic.WasmOperatorsVector.declared.forms.Form.{Form}
 use Rattle.wasm_operators_proposals.specs.WasmOperatorsAtomic.WasmOperatorsVector.declared.operators.VectorOperator.{VectorOperator}
 use Rattle.wasm_operators_proposals.specs.WasmOperatorsAtomic.Codes as atomics
 use Rattle.wasm_operators_proposals.specs.WasmOperatorsAtomic.Forms as atomic_forms
@@ -26,6 +25,7 @@ use Rattle.wasm_operators_proposals.specs.WasmOperatorsAtomic.SharedCodes as sha
 use Rattle.wasm_operators_proposals.specs.WasmOperatorsAtomic.SharedForms as shared_forms
 use Rattle.wasm_operators_proposals.specs.WasmOperatorsAtomic.declared.shared.SharedAtomicOperator.{SharedAtomicOperator}
 use Rattle.wasm_operators_proposals.specs.Accesses.{access_values_at}
+use Rattle.wasm_operators_proposals.specs.Continuations.{continuation_from}
 use Rattle.wasm_operators.specs.Instructions.{vector, atomic, with_memarg, with_form, with_access, is_shared, aggregate_from, bulk_from, vectors_from, atomics_from, prefixed_from, plain_from, instruction_at}
 use Rattle.wasm_operators.specs.Maps.{map_block, map_control, map_legacy, map_parametric, map_reference, map_cast, map_instruction, map_try_table, map_branch}
 use Rattle.wasm_operators.specs.Legacy.{legacy_from}
@@ -119,6 +119,16 @@ module _ {R S : Type 0} (f : R → S) (to : ℕ → R) where
       (renames_if (b == 0xd6) (renames_same_map (u32_at bytes) _ _ (λ x. refl))
       renames_none))))))
 
+  described-renames : (n : ℕ) (bytes : List ℕ) → Renames (map_cast f) (described_from to n bytes) (described_from then_renamed n bytes)
+  unfolding described_from
+  described-renames n bytes =
+      renames_if (n == 34) (renames_same_map (u32_at bytes) _ _ (λ x. refl))
+      (renames_if (n == 35) (renames_map _ _ (heap-renames f to bytes) (λ x. refl))
+      (renames_if (n == 36) (renames_map _ _ (heap-renames f to bytes) (λ x. refl))
+      (renames_if (n == 37) (renames_map _ _ (branch-renames bytes) (λ x. refl))
+      (renames_if (n == 38) (renames_map _ _ (branch-renames bytes) (λ x. refl))
+      renames_none))))
+
   cast-renames : (n : ℕ) (bytes : List ℕ) → Renames (map_cast f) (cast_from to n bytes) (cast_from then_renamed n bytes)
   unfolding cast_from
   cast-renames n bytes =
@@ -128,9 +138,7 @@ module _ {R S : Type 0} (f : R → S) (to : ℕ → R) where
       (renames_if (n == 23) (renames_map _ _ (heap-renames f to bytes) (λ x. refl))
       (renames_if (n == 24) (renames_map _ _ (branch-renames bytes) (λ x. refl))
       (renames_if (n == 25) (renames_map _ _ (branch-renames bytes) (λ x. refl))
-      (renames_if (n == 35) (renames_map _ _ (heap-renames f to bytes) (λ x. refl))
-      (renames_if (n == 36) (renames_map _ _ (heap-renames f to bytes) (λ x. refl))
-      renames_none)))))))
+      (described-renames n bytes))))))
 
   aggregate-renames : (n : ℕ) (bytes : List ℕ) → Renames (map_instruction f) (aggregate_from to n bytes) (aggregate_from then_renamed n bytes)
   unfolding aggregate_from
@@ -177,7 +185,8 @@ module _ {R S : Type 0} (f : R → S) (to : ℕ → R) where
       (renames_if (nat_lt b 0x41) (renames_same_map (memory_size_from b bytes) _ _ (λ x. refl))
       (renames_if (nat_lt b 0x45) (renames_same_map (constant_from b bytes) _ _ (λ x. refl))
       (renames_if (nat_lt b 0xd0) (renames_same_map (numeric_from b) _ _ (λ x. refl))
-      (renames_map _ _ (reference-renames b bytes) (λ x. refl))))))))))))))))
+      (renames_if (nat_lt b 0xe0) (renames_map _ _ (reference-renames b bytes) (λ x. refl))
+      (renames_same_map (continuation_from b bytes) _ _ (λ x. refl)))))))))))))))))
 
   prefixed-renames : (b n : ℕ) (bytes : List ℕ) → Renames (map_instruction f) (prefixed_from to b n bytes) (prefixed_from then_renamed b n bytes)
   unfolding prefixed_from

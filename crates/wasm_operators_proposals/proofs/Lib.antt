@@ -1,2 +1,3 @@
 pub use Rattle.wasm_operators_plain.proofs as WasmOperatorsPlain
 pub mod Listing
+pub mod Fronts

@@ -13,7 +13,7 @@ use Rattle.wasm_operators_proposals.specs.declared.accesses.AccessValues.{Access
 abbrev pub ordering_from : ℕ → Option Ordering
 ordering_from n = if n == 0 then Some SeqCst else (if n == 1 then Some AcqRel else None)
 
-abbrev pub ordering_at : List ℕ → Option (Ordering × List ℕ)
+unfoldable pub ordering_at : List ℕ → Option (Ordering × List ℕ)
 ordering_at bytes = option_and_then (λ n. option_map (λ o. (o, n.1)) (ordering_from n.0)) (u32_at bytes)
 
 abbrev pub reached : Ordering → ℕ → ℕ → AccessValues
@@ -24,7 +24,7 @@ abbrev pub field_behind : Bool → Ordering → ℕ → List ℕ → Option (Acc
 field_behind true o x bytes = option_map (λ i. (reached o x i.0, i.1)) (u32_at bytes)
 field_behind false o x bytes = Some (reached o x 0, bytes)
 
-abbrev pub place_of : Bool → List ℕ → Option (AccessValues × List ℕ)
+unfoldable pub place_of : Bool → List ℕ → Option (AccessValues × List ℕ)
 place_of has_field bytes = option_and_then (λ o. option_and_then (λ x. field_behind has_field o.0 x.0 x.1) (u32_at o.1)) (ordering_at bytes)
 
 -- by the operator's form

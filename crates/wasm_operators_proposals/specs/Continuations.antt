@@ -1,5 +1,5 @@
 -- The stack-switching proposal, Binary Format, Instructions: the instructions on continuations, by one byte.
-use Rattle.std.specs.Prelude.{ℕ, ◌==◌, if◌then◌else◌, List, Option, Some, None}
+use Rattle.std.specs.Prelude.{ℕ, ◌==◌, if◌then◌else◌, List, Option, None}
 use Rattle.std.specs.Option.{option_map, option_and_then}
 use Rattle.wasm_operators_plain.specs.WasmSpec.Values.{byte_at, u32_at, list_at}
 use Rattle.wasm_operators_plain.specs.Immediates.{one_index, two_indices}
@@ -33,7 +33,7 @@ handle_from b bytes =
 unfoldable pub handle_at : List ℕ → Option (Handle × List ℕ)
 handle_at bytes = option_and_then (λ b. handle_from b.0 b.1) (byte_at bytes)
 
-abbrev pub handles_at : List ℕ → Option (List Handle × List ℕ)
+unfoldable pub handles_at : List ℕ → Option (List Handle × List ℕ)
 handles_at bytes = list_at handle_at bytes
 
 -- a list of handlers behind an index, and behind two

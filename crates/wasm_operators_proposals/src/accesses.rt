@@ -42,6 +42,7 @@ fn ordering_of(number: u32) -> Option<Ordering>
 }
 
 /// An ordering.
+#[tactic(auto, unfolding(crate::specs::Accesses::ordering_at))]
 fn read_ordering(reader: &mut BinaryReader) -> Result<Ordering, Refusal>
     ensures same { SameInput reader.old reader.new }
     ensures onward { position_in reader.old ≤ position_in reader.new }
@@ -60,6 +61,7 @@ fn read_ordering(reader: &mut BinaryReader) -> Result<Ordering, Refusal>
 }
 
 /// An ordering, an index, and a second one where there is a field.
+#[tactic(auto, unfolding(crate::specs::Accesses::place_of))]
 fn read_place(reader: &mut BinaryReader, has_field: bool) -> Result<AccessValues, Refusal>
     ensures same { SameInput reader.old reader.new }
     ensures onward { position_in reader.old ≤ position_in reader.new }

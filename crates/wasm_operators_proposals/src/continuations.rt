@@ -75,7 +75,7 @@ impl<'a> ContinuationOperator<'a> {
 
     /// The opcode, a byte.
     pub fn opcode(self) -> u8
-        ensures { result ≡ continuation_opcode (continuation_of self) }
+        ensures { result ≡ continuation_opcode (continuation_of self.entry) }
     {
         match self {
             ContinuationOperator::ContNew { .. } => 0xe0,
@@ -115,6 +115,7 @@ impl<'a> Immediate<'a> for Handle {
 }
 
 /// The handlers of an operator that resumes a continuation.
+#[tactic(auto, unfolding(crate::specs::Continuations::handles_at))]
 fn read_handles<'a>(reader: &mut BinaryReader<'a>) -> Result<ResumeTable<'a>, Refusal>
     ensures same { SameInput reader.old reader.new }
     ensures onward { position_in reader.old ≤ position_in reader.new }
