@@ -1,5 +1,5 @@
 -- Matching, renamed.
-use Rattle.std.proofs.Common.{◌≡◌, refl, ap, ◌∙◌, Bool, ◌&&◌, List, [], ◌∷◌, map, Option, Some, None, option_map}
+use Rattle.std.proofs.Common.{◌≡◌, refl, ap, ◌∙◌, Bool, ◌&&◌, ◌||◌, List, [], ◌∷◌, map, Option, Some, None, option_map}
 use Rattle.wasm_spec_rules.specs.WasmSpec.Syntax.{AbstractHeap, Heap, abstract_heap, concrete, exact, Ref, Val, i32, i64, f32, f64, v128, reference, Storage, i8, i16, unpacked, Comp, func, array, struct, cont, Sub, map_heap, map_ref, map_val, map_storage, map_comp, map_sub}
 use Rattle.wasm_spec_rules.specs.WasmSpec.Matching.{kind_of, bottom_of, top_of, top_of_heap, shared_flag, is_shared_heap}
 use Rattle.wasm_spec_rules.specs.WasmSpec.ValueTypes.{implies}

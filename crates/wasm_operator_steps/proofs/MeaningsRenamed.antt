@@ -1,6 +1,7 @@
 -- The actions, renamed.
 use Rattle.std.proofs.Common.{◌≡◌, refl, sym, ap, ◌∙◌, ℕ, zero, suc, Bool, true, false, not, ◌&&◌, ◌||◌, ◌==◌, List, [], ◌∷◌, ◌++◌, map, length, drop, ◌-◌, Option, Some, None, option_map, is_some, slice_get, if◌then◌else◌}
-use Rattle.std.proofs.lemmas.List.{length-map, map-append}
+use Rattle.std.specs.Prelude.{nat_le}
+use Rattle.std.proofs.lemmas.List.{length-map, map-append, drop-map}
 use Rattle.std.proofs.lemmas.Option.{slice_get-map}
 use Rattle.wasm_spec_rules.specs.WasmSpec.Syntax.{AbstractHeap, eq_heap, Heap, abstract_heap, concrete, exact, Ref, Val, i32, i64, f32, f64, v128, reference, Storage, i8, i16, unpacked, Field, Comp, func, array, struct, cont, Table, map_heap, map_ref, map_val, map_storage, map_field, map_comp, map_sub, map_table, map_global}
 use Rattle.wasm_spec_rules.specs.WasmSpec.ValueTypes.{implies}
@@ -12,9 +13,9 @@ use Rattle.wasm_spec_rules.specs.Attempts.{◌>>=◌, guard, among, passes, last
 use Rattle.wasm_operator_steps.specs.Matching.{matches_vals, match_some, matches_storage}
 use Rattle.wasm_operator_steps.specs.Bodies.{Surroundings, map_local, map_surroundings}
 use Rattle.wasm_operator_steps.specs.Machine.{Operand, bottom, bottom_reference, open_reference, known, Kind, block_kind, loop_kind, if_kind, else_kind, try_table_kind, legacy_try_kind, legacy_catch_kind, legacy_catch_all_kind, is_try, may_catch, has_caught, Frame, State, delegates, rethrows, map_operand, map_frame, map_state, map_popped, push_operand, push_vals, pop_any, pop_reference, same_number, chosen, become_unreachable, push_frame, set_local, pop_vals}
-use Rattle.wasm_operator_steps.specs.Actions.{Signed, of_type, of_function, of_tag, OperandTypes, these, params, results, label, returned, local, global, function_reference, new_reference, fields, element, field, table_address, memory_address, table_element, segment, lesser_table_address, lesser_memory_address, top, descriptor_of, descriptor_for, repeated, front, last, joined, Check, has, allows, global_is_mutable, local_is_set, function_is_referenced, is_exception, each_matches, each_matches_some, may_be_cast, can_be_tested, is_aligned, suits, fields_have_defaults, has_no_descriptor, field_is_mutable, field_is_packed, element_is_mutable, element_has_default, element_is_number, element_is_packed, element_is_storable, data_is_there, segment_is_there, reaches_global, reaches_table, reaches_type, reaches_function, Action, need, refuse, take, give, take_any, take_reference, take_comparable, make_non_null, choose, stop, turn_to_else, leave, take_below, convert, enter, turn_to_catch, find_outside, find_caught, set, branch_on_null, branch_to_one_of}
+use Rattle.wasm_operator_steps.specs.Actions.{Signed, of_type, of_function, of_tag, OperandTypes, these, params, results, label, returned, local, global, function_reference, new_reference, fields, element, field, table_address, memory_address, table_element, segment, lesser_table_address, lesser_memory_address, top, descriptor_of, descriptor_for, repeated, front, last, continued, taken_by, given_by, joined, before, behind, Check, has, allows, global_is_mutable, local_is_set, function_is_referenced, is_exception, each_matches, each_matches_some, may_be_cast, can_be_tested, is_aligned, suits, fields_have_defaults, has_no_descriptor, field_is_mutable, field_is_packed, element_is_mutable, element_has_default, element_is_number, element_is_packed, element_is_storable, data_is_there, segment_is_there, reaches_global, reaches_table, reaches_type, reaches_function, Action, need, refuse, take, give, take_any, take_reference, take_comparable, make_non_null, choose, stop, turn_to_else, leave, take_below, convert, describe, enter, turn_to_catch, find_outside, find_caught, set, branch_on_null, branch_to_one_of}
 use Rattle.wasm_spec_rules.specs.Signatures.{Signature, resolve_heap, resolve_ref, resolve_val, resolve_vals, signature_of}
-use Rattle.wasm_operator_steps.specs.Meanings.{ref_to, resolve_block, fields_of, element_of, unpack, unpack_field, is_packed, has_default, all_have_defaults, copies, one, is_of_continuations, address, both, label_by, sub_at, comp_at, type_signature, block_signature, frame_signature, label_at, returned_at, signature_at, fields_at, element_at, field_at, exact_if, function_heap, descriptor_at, descriptor_heap, top_heap, table_is_64, memory_is_64, types_at, casts, holds, is_below_either, agree, converted, pop_frame, may_end, leave_in, turn_in, catch_in, labels_fit, act, run}
+use Rattle.wasm_operator_steps.specs.Meanings.{ref_to, resolve_block, defined_in, firsts, fields_of, element_of, cont_of, referred, all_but, last_ones, unpack, unpack_field, is_packed, has_default, all_have_defaults, copies, one, is_of_continuations, address, both, label_by, sub_at, comp_at, type_signature, block_signature, frame_signature, label_at, returned_at, signature_at, fields_at, element_at, field_at, exact_if, function_heap, descriptor_at, descriptor_heap, top_heap, table_is_64, memory_is_64, continuation_signature, continued_signature, types_at, casts, holds, is_below_either, agree, converted, pop_frame, may_end, leave_in, turn_in, catch_in, labels_fit, described_by, described, act, run}
 use Rattle.wasm_operator_steps.specs.Renaming.{Renames}
 use Rattle.wasm_operator_steps.proofs.Attempts.{bind-map, bind-same, then-map, passes-map, guard-map, is_some-map, last_of-map, front_of-map}
 use Rattle.wasm_operator_steps.proofs.MatchingRenamed.{matches_heap-map, matches_ref-map, matches_vals-map, match_some-map, matches_storage-map, is_shared_heap-map, top_of_heap-map}
@@ -66,6 +67,41 @@ module _ {R S : Type 0} (f : R → S) where
   element_of-map (array x) = refl
   element_of-map (struct xs) = refl
   element_of-map (cont r) = refl
+
+  cont_of-map : (c : Comp R) → cont_of (map_comp f c) ≡ option_map f (cont_of c)
+  cont_of-map (func ps rs) = refl
+  cont_of-map (array x) = refl
+  cont_of-map (struct xs) = refl
+  cont_of-map (cont r) = refl
+
+  defined_in-map : (x : Heap R) → defined_in (map_heap f x) ≡ option_map f (defined_in x)
+  defined_in-map (abstract_heap s k) = refl
+  defined_in-map (concrete a) = refl
+  defined_in-map (exact a) = refl
+
+  referred-map : (v : Val R) → referred (map_val f v) ≡ option_map f (referred v)
+  referred-map i32 = refl
+  referred-map i64 = refl
+  referred-map f32 = refl
+  referred-map f64 = refl
+  referred-map v128 = refl
+  referred-map (reference r) = defined_in-map r.heap
+
+  -- the first of some types, and the last of them
+  firsts-map : (n : ℕ) (vs : List (Val R)) → firsts n (map_vals f vs) ≡ map_vals f (firsts n vs)
+  firsts-map zero vs = refl
+  firsts-map (suc n) [] = refl
+  firsts-map (suc n) (v ∷ vs) = λ i. map_val f v ∷ firsts-map n vs i
+
+  all_but-map : (n : ℕ) (vs : List (Val R)) → all_but n (map_vals f vs) ≡ option_map (map_vals f) (all_but n vs)
+  all_but-map n vs =
+      guard-map (map_vals f) (firsts (length vs - n) vs) (ap (nat_le n) (length-map vs (map_val f)))
+      ((λ i. firsts (length-map vs (map_val f) i - n) (map_vals f vs)) ∙ firsts-map (length vs - n) vs)
+
+  last_ones-map : (n : ℕ) (vs : List (Val R)) → last_ones n (map_vals f vs) ≡ option_map (map_vals f) (last_ones n vs)
+  last_ones-map n vs =
+      guard-map (map_vals f) (drop (length vs - n) vs) (ap (nat_le n) (length-map vs (map_val f)))
+      ((λ i. drop (length-map vs (map_val f) i - n) (map_vals f vs)) ∙ drop-map (map_val f) (length vs - n) vs)
 
   unpack-map : (x : Storage R) → unpack (map_storage f x) ≡ map_val f (unpack x)
   unpack-map i8 = refl
@@ -218,6 +254,22 @@ module _ {R S : Type 0} (f : R → S) (W : World R) (V : World S) (h : Renames f
   item_of-map : (o : Option (Field R)) {o' : Option (Field S)} → o' ≡ option_map (map_field f) o → one (option_map unpack_field o') ≡ option_map (map_vals f) (one (option_map unpack_field o))
   item_of-map o p = one-map f (option_map unpack_field o) (then-map (map_field f) (map_val f) unpack_field unpack_field (unpack_field-map f) o p)
 
+  continuation_signature-map : (a : R) → continuation_signature V N (f a) ≡ option_map (map_signature f) (continuation_signature W B a)
+  continuation_signature-map a =
+      bind-map (map_sub f) (map_signature f) _ _
+      (λ d. bind-map f (map_signature f) _ _
+      (λ b. bind-map (map_sub f) (map_signature f) _ _ (λ e. signature_of-map f e.comp) (W.declared b) (h.declared b))
+      (cont_of d.comp) (cont_of-map f d.comp))
+      (W.declared a) (h.declared a)
+
+  continued_signature-map : (vs : List (Val R)) → continued_signature V N (map_vals f vs) ≡ option_map (map_signature f) (continued_signature W B vs)
+  continued_signature-map vs =
+      bind-map f (map_signature f) _ _ continuation_signature-map (last_of vs >>= referred)
+      (bind-map (map_val f) f referred referred (referred-map f) (last_of vs) (last_of-map (map_val f) vs))
+
+  signed-map : (o : Option (List (Val R))) {o' : Option (List (Val S))} → o' ≡ option_map (map_vals f) o → (o' >>= continued_signature V N) ≡ option_map (map_signature f) (o >>= continued_signature W B)
+  signed-map o p = bind-map (map_vals f) (map_signature f) (continued_signature W B) (continued_signature V N) continued_signature-map o p
+
   types_at-map : (s : State R) (t : OperandTypes) → types_at V N (map_state f s) t ≡ option_map (map_vals f) (types_at W B s t)
   types_at-map s (these vs) = resolve_vals-map f B.context.types vs
   types_at-map s (params g) = then-map (map_signature f) (map_vals f) _ _ (λ x. refl) (signature_at W B g) (signature_at-map g)
@@ -247,6 +299,22 @@ module _ {R S : Type 0} (f : R → S) (W : World R) (V : World S) (h : Renames f
   types_at-map s (repeated n t) = then-map (map_vals f) (map_vals f) _ _ (copies-map f n) (types_at W B s t) (types_at-map s t)
   types_at-map s (front t) = then-map (map_vals f) (map_vals f) front_of front_of (front_of-map (map_val f)) (types_at W B s t) (types_at-map s t)
   types_at-map s (last t) = one-map f _ (bind-map (map_vals f) (map_val f) last_of last_of (last_of-map (map_val f)) (types_at W B s t) (types_at-map s t))
+  types_at-map s (continued n) =
+      one-map f _ (then-map f (map_val f) _ _ (λ a. refl) (comp_at W B n >>= cont_of) (bind-map (map_comp f) f cont_of cont_of (cont_of-map f) (comp_at W B n) (comp_at-map n)))
+  types_at-map s (taken_by t) = then-map (map_signature f) (map_vals f) _ _ (λ g. refl) (types_at W B s t >>= continued_signature W B) (signed-map (types_at W B s t) (types_at-map s t))
+  types_at-map s (given_by t) = then-map (map_signature f) (map_vals f) _ _ (λ g. refl) (types_at W B s t >>= continued_signature W B) (signed-map (types_at W B s t) (types_at-map s t))
+  types_at-map s (before t u) =
+      bind-map (map_vals f) (map_vals f) _ _
+      (λ vs. bind-map (map_vals f) (map_vals f) _ _
+      (λ ws. (λ i. all_but (length-map ws (map_val f) i) (map_vals f vs)) ∙ all_but-map f (length ws) vs)
+      (types_at W B s u) (types_at-map s u))
+      (types_at W B s t) (types_at-map s t)
+  types_at-map s (behind t u) =
+      bind-map (map_vals f) (map_vals f) _ _
+      (λ vs. bind-map (map_vals f) (map_vals f) _ _
+      (λ ws. (λ i. last_ones (length-map ws (map_val f) i) (map_vals f vs)) ∙ last_ones-map f (length ws) vs)
+      (types_at W B s u) (types_at-map s u))
+      (types_at W B s t) (types_at-map s t)
   types_at-map s (joined t u) =
       bind-map (map_vals f) (map_vals f) _ _
       (λ vs. bind-map (map_vals f) (map_vals f) _ _ (λ ws. ap Some (sym (map-append (map_val f) vs ws))) (types_at W B s u) (types_at-map s u))
@@ -378,6 +446,16 @@ module _ {R S : Type 0} (f : R → S) (W : World R) (V : World S) (h : Renames f
       (label_at W B s n) (label_at-map s n) i
       && labels_fit-map s k ns i
 
+  described_by-some : (b : R) (o p : Option (State R)) → described_by V N (f b) (option_map (map_state f) o) (option_map (map_state f) p) ≡ option_map (map_state f) (described_by W B b o p)
+  described_by-some b (Some t) p = refl
+  described_by-some b None None = refl
+  described_by-some b None (Some t) = refl
+
+  described-map : (a b : R) (s : State R) → described V N (f a) (f b) (map_state f s) ≡ option_map (map_state f) (described W B a b s)
+  described-map a b s =
+      (λ i. described_by V N (f b) (pop_vals-map f W V h (ref_to true (exact a) ∷ []) s i) (pop_vals-map f W V h (ref_to true (concrete a) ∷ []) s i))
+      ∙ described_by-some b (pop_vals W (ref_to true (exact a) ∷ []) s) (pop_vals W (ref_to true (concrete a) ∷ []) s)
+
   act-map : (a : Action) (s : State R) → act V N a (map_state f s) ≡ option_map (map_state f) (act W B a s)
   act-map (need c) s = guard-map (map_state f) s (holds-map s c) refl
   act-map refuse s = refl
@@ -397,6 +475,10 @@ module _ {R S : Type 0} (f : R → S) (W : World R) (V : World S) (h : Renames f
       bind-map (map_popped f) (map_state f) _ _
       (λ p. guard-map (map_state f) (push_operand (converted W B k p.0) p.1) (is_below_either-map j p.0) (λ i. push_operand (converted-map k p.0 i) (map_state f p.1)))
       (pop_reference s) (pop_reference-map f s)
+  act-map (describe n) s =
+      bind-map f (map_state f) _ _
+      (λ a. bind-map f (map_state f) _ _ (λ b. described-map a b s) (descriptor_at W B n) (descriptor_at-map n))
+      (slice_get B.context.types n) (slice_get-map f B.context.types n)
   act-map choose s =
       bind-map (map_popped f) (map_state f) _ _
       (λ p. bind-map (map_popped f) (map_state f) _ _

@@ -62,8 +62,11 @@ past_one x = drop 1 (actions_of x)
 abbrev past_two : Shape → List Action
 past_two x = drop 2 (actions_of x)
 
-no_such : {X : Type 0} → false ≡ true → X
-no_such e = absurd e
+not_both : false ≡ true → ⊥
+not_both e = cc
+
+not_one : true ≡ false → ⊥
+not_one e = cc
 
 module _ {R : Type 0} (W : World R) (B : Surroundings R) where
   undescribed : (op : Cast ℕ) → is_on_descriptors op ≡ true → B.features.descriptor_operators ≡ false → (s : State R) → run W B (actions_of (cast_shape op)) s ≡ None
@@ -71,20 +74,20 @@ module _ {R : Type 0} (W : World R) (B : Surroundings R) where
   undescribed (ref_cast_desc_eq q) h e = first W B descriptor_operators (past_one (cast_shape (ref_cast_desc_eq q))) e
   undescribed (br_on_cast_desc_eq l r q) h e = first W B descriptor_operators (past_one (cast_shape (br_on_cast_desc_eq l r q))) e
   undescribed (br_on_cast_desc_eq_fail l r q) h e = first W B descriptor_operators (past_one (cast_shape (br_on_cast_desc_eq_fail l r q))) e
-  undescribed (ref_test q) h e = no_such h
-  undescribed (ref_cast q) h e = no_such h
-  undescribed (br_on_cast l r q) h e = no_such h
-  undescribed (br_on_cast_fail l r q) h e = no_such h
+  undescribed (ref_test q) h e = absurd (not_both h)
+  undescribed (ref_cast q) h e = absurd (not_both h)
+  undescribed (br_on_cast l r q) h e = absurd (not_both h)
+  undescribed (br_on_cast_fail l r q) h e = absurd (not_both h)
 
   uncustomized : (op : Cast ℕ) → is_on_descriptors op ≡ true → B.features.custom_descriptors ≡ false → (s : State R) → run W B (actions_of (cast_shape op)) s ≡ None
   uncustomized (ref_get_desc x) h e = second W B (has descriptor_operators) custom_descriptors (past_two (cast_shape (ref_get_desc x))) e
   uncustomized (ref_cast_desc_eq q) h e = second W B (has descriptor_operators) custom_descriptors (past_two (cast_shape (ref_cast_desc_eq q))) e
   uncustomized (br_on_cast_desc_eq l r q) h e = second W B (has descriptor_operators) custom_descriptors (past_two (cast_shape (br_on_cast_desc_eq l r q))) e
   uncustomized (br_on_cast_desc_eq_fail l r q) h e = second W B (has descriptor_operators) custom_descriptors (past_two (cast_shape (br_on_cast_desc_eq_fail l r q))) e
-  uncustomized (ref_test q) h e = no_such h
-  uncustomized (ref_cast q) h e = no_such h
-  uncustomized (br_on_cast l r q) h e = no_such h
-  uncustomized (br_on_cast_fail l r q) h e = no_such h
+  uncustomized (ref_test q) h e = absurd (not_both h)
+  uncustomized (ref_cast q) h e = absurd (not_both h)
+  uncustomized (br_on_cast l r q) h e = absurd (not_both h)
+  uncustomized (br_on_cast_fail l r q) h e = absurd (not_both h)
 
   unswitched : (op : Continuation) → B.features.stack_switching_operators ≡ false → (s : State R) → run W B (actions_of (continuation_shape op)) s ≡ None
   unswitched (cont_new n) e = first W B stack_switching_operators (past_one (continuation_shape (cont_new n))) e
@@ -123,22 +126,22 @@ operators_are_opt_in W B = record {
 -- an instruction that isn't served needs its feature
 unserved_memory : {R : Type 0} (W : World R) (B : Surroundings R) (op : BulkMemoryOperator) (s : State R) → serves_memory B.features op ≡ false → step_in W B (memory op) s ≡ None
 unserved_memory W B (MemoryDiscard x) s e = (operators_are_opt_in W B).needs_memory_control e x s
-unserved_memory W B (MemorySize x) s e = absurd e
-unserved_memory W B (MemoryGrow x) s e = absurd e
-unserved_memory W B (MemoryFill x) s e = absurd e
-unserved_memory W B (MemoryCopy x y) s e = absurd e
-unserved_memory W B (MemoryInit y x) s e = absurd e
-unserved_memory W B (DataDrop y) s e = absurd e
+unserved_memory W B (MemorySize x) s e = absurd (not_one e)
+unserved_memory W B (MemoryGrow x) s e = absurd (not_one e)
+unserved_memory W B (MemoryFill x) s e = absurd (not_one e)
+unserved_memory W B (MemoryCopy x y) s e = absurd (not_one e)
+unserved_memory W B (MemoryInit y x) s e = absurd (not_one e)
+unserved_memory W B (DataDrop y) s e = absurd (not_one e)
 
 unserved_cast : {R : Type 0} (W : World R) (B : Surroundings R) (op : Cast ℕ) (s : State R) → serves_cast B.features op ≡ false → step_in W B (cast op) s ≡ None
 unserved_cast W B (ref_get_desc x) s e = (operators_are_opt_in W B).needs_descriptor_operators e (ref_get_desc x) s refl
 unserved_cast W B (ref_cast_desc_eq q) s e = (operators_are_opt_in W B).needs_descriptor_operators e (ref_cast_desc_eq q) s refl
 unserved_cast W B (br_on_cast_desc_eq l r q) s e = (operators_are_opt_in W B).needs_descriptor_operators e (br_on_cast_desc_eq l r q) s refl
 unserved_cast W B (br_on_cast_desc_eq_fail l r q) s e = (operators_are_opt_in W B).needs_descriptor_operators e (br_on_cast_desc_eq_fail l r q) s refl
-unserved_cast W B (ref_test q) s e = absurd e
-unserved_cast W B (ref_cast q) s e = absurd e
-unserved_cast W B (br_on_cast l r q) s e = absurd e
-unserved_cast W B (br_on_cast_fail l r q) s e = absurd e
+unserved_cast W B (ref_test q) s e = absurd (not_one e)
+unserved_cast W B (ref_cast q) s e = absurd (not_one e)
+unserved_cast W B (br_on_cast l r q) s e = absurd (not_one e)
+unserved_cast W B (br_on_cast_fail l r q) s e = absurd (not_one e)
 
 unserved_step : {R : Type 0} (W : World R) (B : Surroundings R) (op : Instruction ℕ) (s : State R) → serves B.features op ≡ false → step_in W B op s ≡ None
 unserved_step W B (memory op) s e = unserved_memory W B op s e
@@ -146,22 +149,22 @@ unserved_step W B (cast op) s e = unserved_cast W B op s e
 unserved_step W B (wide op) s e = (operators_are_opt_in W B).needs_wide_arithmetic e op s
 unserved_step W B (shared op values) s e = (operators_are_opt_in W B).needs_shared_atomic_operators e op values s
 unserved_step W B (continuation op) s e = (operators_are_opt_in W B).needs_stack_switching_operators e op s
-unserved_step W B (control op) s e = absurd e
-unserved_step W B (legacy op) s e = absurd e
-unserved_step W B (call op) s e = absurd e
-unserved_step W B (parametric op) s e = absurd e
-unserved_step W B (variable op) s e = absurd e
-unserved_step W B (table op) s e = absurd e
-unserved_step W B (access op m) s e = absurd e
-unserved_step W B (constant op) s e = absurd e
-unserved_step W B (numeric op) s e = absurd e
-unserved_step W B (saturating op) s e = absurd e
-unserved_step W B (reference op) s e = absurd e
-unserved_step W B (conversion op) s e = absurd e
-unserved_step W B (structure op) s e = absurd e
-unserved_step W B (array op) s e = absurd e
-unserved_step W B (vector op values) s e = absurd e
-unserved_step W B (atomic op values) s e = absurd e
+unserved_step W B (control op) s e = absurd (not_one e)
+unserved_step W B (legacy op) s e = absurd (not_one e)
+unserved_step W B (call op) s e = absurd (not_one e)
+unserved_step W B (parametric op) s e = absurd (not_one e)
+unserved_step W B (variable op) s e = absurd (not_one e)
+unserved_step W B (table op) s e = absurd (not_one e)
+unserved_step W B (access op m) s e = absurd (not_one e)
+unserved_step W B (constant op) s e = absurd (not_one e)
+unserved_step W B (numeric op) s e = absurd (not_one e)
+unserved_step W B (saturating op) s e = absurd (not_one e)
+unserved_step W B (reference op) s e = absurd (not_one e)
+unserved_step W B (conversion op) s e = absurd (not_one e)
+unserved_step W B (structure op) s e = absurd (not_one e)
+unserved_step W B (array op) s e = absurd (not_one e)
+unserved_step W B (vector op values) s e = absurd (not_one e)
+unserved_step W B (atomic op values) s e = absurd (not_one e)
 
 unserved_constant : (F : Features) (op : Instruction ℕ) → serves F op ≡ false → is_constant F op ≡ false
 unserved_constant F (memory op) e = refl
@@ -169,22 +172,22 @@ unserved_constant F (cast op) e = refl
 unserved_constant F (wide op) e = refl
 unserved_constant F (shared op values) e = refl
 unserved_constant F (continuation op) e = refl
-unserved_constant F (control op) e = absurd e
-unserved_constant F (legacy op) e = absurd e
-unserved_constant F (call op) e = absurd e
-unserved_constant F (parametric op) e = absurd e
-unserved_constant F (variable op) e = absurd e
-unserved_constant F (table op) e = absurd e
-unserved_constant F (access op m) e = absurd e
-unserved_constant F (constant op) e = absurd e
-unserved_constant F (numeric op) e = absurd e
-unserved_constant F (saturating op) e = absurd e
-unserved_constant F (reference op) e = absurd e
-unserved_constant F (conversion op) e = absurd e
-unserved_constant F (structure op) e = absurd e
-unserved_constant F (array op) e = absurd e
-unserved_constant F (vector op values) e = absurd e
-unserved_constant F (atomic op values) e = absurd e
+unserved_constant F (control op) e = absurd (not_one e)
+unserved_constant F (legacy op) e = absurd (not_one e)
+unserved_constant F (call op) e = absurd (not_one e)
+unserved_constant F (parametric op) e = absurd (not_one e)
+unserved_constant F (variable op) e = absurd (not_one e)
+unserved_constant F (table op) e = absurd (not_one e)
+unserved_constant F (access op m) e = absurd (not_one e)
+unserved_constant F (constant op) e = absurd (not_one e)
+unserved_constant F (numeric op) e = absurd (not_one e)
+unserved_constant F (saturating op) e = absurd (not_one e)
+unserved_constant F (reference op) e = absurd (not_one e)
+unserved_constant F (conversion op) e = absurd (not_one e)
+unserved_constant F (structure op) e = absurd (not_one e)
+unserved_constant F (array op) e = absurd (not_one e)
+unserved_constant F (vector op values) e = absurd (not_one e)
+unserved_constant F (atomic op values) e = absurd (not_one e)
 
 pub unserved_take_none : {R : Type 0} → UnservedTakeNone R
 unserved_take_none W B = record {

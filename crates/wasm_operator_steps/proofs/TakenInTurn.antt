@@ -8,9 +8,9 @@ use Rattle.wasm_operators.specs.Instructions.{Instruction}
 use Rattle.wasm_spec_rules.specs.Attempts.{◌>>=◌, guard, last_of, front_of}
 use Rattle.wasm_operator_steps.specs.Bodies.{Surroundings}
 use Rattle.wasm_operator_steps.specs.Machine.{Operand, bottom, known, Frame, State, push_operand, pushed_onto, push_vals, popped, pop_any, matches_operand, pop_val, pop_vals}
-use Rattle.wasm_operator_steps.specs.Actions.{OperandTypes, these, params, results, label, returned, local, global, function_reference, new_reference, descriptor_of, descriptor_for, fields, element, field, table_address, memory_address, table_element, segment, lesser_table_address, lesser_memory_address, top, repeated, front, last, joined, Action, take, give}
+use Rattle.wasm_operator_steps.specs.Actions.{OperandTypes, these, params, results, label, returned, local, global, function_reference, new_reference, descriptor_of, descriptor_for, fields, element, field, table_address, memory_address, table_element, segment, lesser_table_address, lesser_memory_address, top, repeated, front, last, continued, taken_by, given_by, joined, before, behind, Action, take, give}
 use Rattle.wasm_operator_steps.specs.Shapes.{shape_of}
-use Rattle.wasm_operator_steps.specs.Meanings.{one, copies, label_by, frame_signature, types_at, act, run}
+use Rattle.wasm_operator_steps.specs.Meanings.{one, copies, all_but, last_ones, label_by, frame_signature, continued_signature, types_at, act, run}
 use Rattle.wasm_operator_steps.specs.Steps.{actions_of, is_open, step_in, steps_in}
 use Rattle.wasm_operator_steps.specs.StackLaws.{ListsAreTakenInTurn, TakingKeepsFrames, TypesAreTakenInTurn, IsUnreached, UnreachedCodeTakesAnything, ActionsAreRunInTurn}
 
@@ -143,6 +143,11 @@ module _ {R : Type 0} (W : World R) (B : Surroundings R) where
   types_at-frames s r e (repeated n t) = ap (option_map (copies n)) (types_at-frames s r e t)
   types_at-frames s r e (front t) = ap (option_map front_of) (types_at-frames s r e t)
   types_at-frames s r e (last t) = ap (λ (o : Option (List (Val R))). one (o >>= last_of)) (types_at-frames s r e t)
+  types_at-frames s r e (continued n) = refl
+  types_at-frames s r e (taken_by t) = ap (λ (o : Option (List (Val R))). option_map (λ g. g.takes) (o >>= continued_signature W B)) (types_at-frames s r e t)
+  types_at-frames s r e (given_by t) = ap (λ (o : Option (List (Val R))). option_map (λ g. g.gives) (o >>= continued_signature W B)) (types_at-frames s r e t)
+  types_at-frames s r e (before t u) = λ i. types_at-frames s r e t i >>= λ vs. types_at-frames s r e u i >>= λ ws. all_but (length ws) vs
+  types_at-frames s r e (behind t u) = λ i. types_at-frames s r e t i >>= λ vs. types_at-frames s r e u i >>= λ ws. last_ones (length ws) vs
   types_at-frames s r e (joined t u) = λ i. types_at-frames s r e t i >>= λ vs. types_at-frames s r e u i >>= λ ws. Some (vs ++ ws)
 
   -- lists that may not be there, taken and given

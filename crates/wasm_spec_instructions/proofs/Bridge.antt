@@ -2,7 +2,7 @@
 use Rattle.std.proofs.Common.{◌≡◌, refl, sym, ap, subst, ◌∙◌, ℕ, zero, suc, ◌+◌, ◌-◌, Bool, true, false, ◌==◌, List, [], ◌∷◌, ◌++◌, length, drop, Option, Some, None, option_map, is_some, ◌&&◌, if◌then◌else◌, slice_get, arith, length-append}
 use Rattle.std.proofs.lemmas.Bool.Decides.{Decides-eqb}
 use Rattle.std.proofs.Math.Seq.{drop-append_seam}
-use Rattle.wasm_operator_steps.specs.WasmSpecRules.WasmSpec.Syntax.{eq_heap, Val}
+use Rattle.wasm_operator_steps.specs.WasmSpecRules.WasmSpec.Syntax.{eq_heap, concrete, exact, Val}
 use Rattle.wasm_operator_steps.specs.WasmSpecRules.WasmSpec.MatchingTests.{World}
 use Rattle.wasm_operator_steps.specs.WasmSpecRules.Attempts.{◌>>=◌, guard, passes, last_of, front_of}
 use Rattle.wasm_operator_steps.specs.WasmSpecRules.Signatures.{Signature}
@@ -10,12 +10,13 @@ use Rattle.wasm_operator_steps.specs.Matching.{matches_vals, match_some}
 use Rattle.wasm_operators.specs.Control.{Block}
 use Rattle.wasm_operator_steps.specs.Bodies.{Surroundings}
 use Rattle.wasm_operator_steps.specs.Machine.{Operand, known, Kind, else_kind, is_if, may_catch, Frame, State, pushed_onto, push_vals, push_operand, popped, pop_any, as_reference, pop_reference, non_null, chosen, matches_operand, pop_val, pop_vals, become_unreachable, has_caught, rethrows, push_frame, set_local}
-use Rattle.wasm_operator_steps.specs.Actions.{OperandTypes, these, params, results, label, returned, local, global, function_reference, new_reference, descriptor_of, descriptor_for, fields, element, field, table_address, memory_address, table_element, segment, lesser_table_address, lesser_memory_address, top, repeated, front, last, joined, Check, has, allows, global_is_mutable, local_is_set, function_is_referenced, is_exception, each_matches, each_matches_some, may_be_cast, can_be_tested, is_aligned, suits, fields_have_defaults, has_no_descriptor, field_is_mutable, field_is_packed, element_is_mutable, element_has_default, element_is_number, element_is_packed, element_is_storable, data_is_there, segment_is_there, reaches_global, reaches_table, reaches_type, reaches_function, Action, need, refuse, take, give, take_any, take_reference, take_comparable, make_non_null, choose, stop, turn_to_else, leave, take_below, convert, enter, set, branch_on_null, branch_to_one_of, turn_to_catch, find_outside, find_caught}
-use Rattle.wasm_operator_steps.specs.Meanings.{one, copies, label_by, resolve_block, block_signature, frame_signature, label_at, is_below_either, agree, converted, may_end, labels_fit, types_at, holds, pop_frame, act, run}
+use Rattle.wasm_operator_steps.specs.Actions.{OperandTypes, these, params, results, label, returned, local, global, function_reference, new_reference, descriptor_of, descriptor_for, fields, element, field, table_address, memory_address, table_element, segment, lesser_table_address, lesser_memory_address, top, repeated, front, last, continued, taken_by, given_by, joined, before, behind, Check, has, allows, global_is_mutable, local_is_set, function_is_referenced, is_exception, each_matches, each_matches_some, may_be_cast, can_be_tested, is_aligned, suits, fields_have_defaults, has_no_descriptor, field_is_mutable, field_is_packed, element_is_mutable, element_has_default, element_is_number, element_is_packed, element_is_storable, data_is_there, segment_is_there, reaches_global, reaches_table, reaches_type, reaches_function, Action, need, refuse, take, give, take_any, take_reference, take_comparable, make_non_null, choose, stop, turn_to_else, leave, take_below, convert, describe, enter, set, branch_on_null, branch_to_one_of, turn_to_catch, find_outside, find_caught}
+use Rattle.wasm_operator_steps.specs.Meanings.{one, copies, all_but, last_ones, continued_signature, descriptor_at, described_by, described, label_by, resolve_block, block_signature, frame_signature, label_at, is_below_either, agree, converted, may_end, labels_fit, types_at, holds, pop_frame, act, run}
 use Rattle.wasm_operator_steps.specs.Steps.{checked}
+use Rattle.wasm_spec_instructions.specs.ValueTypes.{reference_at}
 use Rattle.wasm_spec_instructions.specs.Scopes.{Scope, is_set, types_in, holds_in}
 use Rattle.wasm_spec_instructions.proofs.Attempts.{the_same, bind-bind, bind-gives, some-some, not_true}
-use Rattle.wasm_spec_instructions.proofs.Within.{Stack, stack, Entered, lpop_in, lpop, lpush, referring, referred, lpop_reference, lput, stopped, is_empty, without, entered, and_choose, choose_of, put_non_null, given_back, matched, lpop_val, lpops, lfit, emptied, lend, below, compared, compare_of, converting_to, null_for, null_at, in_table, table_for, IsWithin, lact, lrun, taking, signed, lenter_block, lshut, is_caught}
+use Rattle.wasm_spec_instructions.proofs.Within.{Stack, stack, Entered, lpop_in, lpop, lpush, referring, referred, lpop_reference, lput, stopped, is_empty, without, entered, and_choose, choose_of, put_non_null, given_back, matched, lpop_val, lpops, lfit, emptied, lend, below, compared, compare_of, converting_to, null_for, null_at, in_table, table_for, ldescribed_by, ldescribed, described_of, IsWithin, lact, lrun, taking, signed, lenter_block, lshut, is_caught}
 
 -- an attempt that is another one, seen otherwise, and what follows it
 pub chain :
@@ -135,6 +136,10 @@ module _ {R : Type 0} {W : World R} {B : Surroundings R} (P : Place W B) where
   types_at-at p (repeated n t) = λ i. option_map (copies n) (types_at-at p t i)
   types_at-at p (front t) = λ i. option_map front_of (types_at-at p t i)
   types_at-at p (last t) = λ i. one (types_at-at p t i >>= last_of)
+  types_at-at p (taken_by t) = λ i. option_map (λ g. g.takes) (types_at-at p t i >>= continued_signature W B)
+  types_at-at p (given_by t) = λ i. option_map (λ g. g.gives) (types_at-at p t i >>= continued_signature W B)
+  types_at-at p (before t u) = λ i. types_at-at p t i >>= λ vs. types_at-at p u i >>= λ ws. all_but (length ws) vs
+  types_at-at p (behind t u) = λ i. types_at-at p t i >>= λ vs. types_at-at p u i >>= λ ws. last_ones (length ws) vs
   types_at-at p (joined t u) = λ i. types_at-at p t i >>= λ vs. types_at-at p u i >>= λ ws. Some (vs ++ ws)
   types_at-at p (these vs) = refl
   types_at-at p (params g) = refl
@@ -155,6 +160,7 @@ module _ {R : Type 0} {W : World R} {B : Surroundings R} (P : Place W B) where
   types_at-at p (lesser_table_address m n) = refl
   types_at-at p (lesser_memory_address m n) = refl
   types_at-at p (top r) = refl
+  types_at-at p (continued n) = refl
 
   holds-at : (p : Stack R) (c : Check) → holds W B (at P p) c ≡ holds_in W B P.labels P.returns (p.sets ++ P.inits) c
   holds-at p (local_is_set n) = refl
@@ -196,6 +202,17 @@ module _ {R : Type 0} {W : World R} {B : Surroundings R} (P : Place W B) where
       → ((q : Operand R × Stack R) → g (with_at P q) ≡ (h q >>= λ z. Some (at P z))) → (pop_any (at P p) >>= g) ≡ ((lpop p >>= h) >>= λ z. Some (at P z))
   after_any p g h e = chain (pop_any (at P p)) (lpop p) (with_at P) g h (at P) (pop_any-at p) e
 
+  -- what describes a reference
+  described_by-at : (b : R) (o r : Option (Stack R)) → described_by W B b (o >>= λ q. Some (at P q)) (r >>= λ q. Some (at P q)) ≡ (ldescribed_by b o r >>= λ q. Some (at P q))
+  described_by-at b (Some x) r = refl
+  described_by-at b None None = refl
+  described_by-at b None (Some x) = refl
+
+  described-at : (a b : R) (p : Stack R) → described W B a b (at P p) ≡ (ldescribed W a b p >>= λ q. Some (at P q))
+  described-at a b p =
+      (λ i. described_by W B b (pop_vals-at (reference_at true (exact a) ∷ []) p i) (pop_vals-at (reference_at true (concrete a) ∷ []) p i))
+      ∙ described_by-at b (lpops W (reference_at true (exact a) ∷ []) p) (lpops W (reference_at true (concrete a) ∷ []) p)
+
   -- actions
   pub act-at : (a : Action) (p : Stack R) → IsWithin W B a → act W B a (at P p) ≡ (lact W B (scope P) a p >>= λ q. Some (at P q))
   act-at (need c) p w = ap (λ (b : Bool). guard b (at P p)) (holds-at p c) ∙ guarded (holds_in W B P.labels P.returns (p.sets ++ P.inits) c) p (at P)
@@ -219,6 +236,10 @@ module _ {R : Type 0} {W : World R} {B : Surroundings R} (P : Place W B) where
   act-at (convert j k) p w =
       after_reference p (λ q. guard (is_below_either W B j q.0) (push_operand (converted W B k q.0) q.1)) (converting_to W B j k)
       (λ q. guarded (is_below_either W B j q.0) (lput (converted W B k q.0) q.1) (at P))
+  act-at (describe n) p w =
+      (λ i. slice_get B.context.types n >>= λ a. descriptor_at W B n >>= λ b. described-at a b p i)
+      ∙ (λ i. slice_get B.context.types n >>= λ a. sym (bind-bind (descriptor_at W B n) (λ b. ldescribed W a b p) (λ q. Some (at P q))) i)
+      ∙ sym (bind-bind (slice_get B.context.types n) (described_of W B n p) (λ q. Some (at P q)))
   act-at take_comparable p w =
       after_reference p (λ a. pop_reference a.1 >>= λ b. guard (is_below_either W B eq_heap a.0 && is_below_either W B eq_heap b.0 && agree W B a.0 b.0) b.1) (compare_of W B)
       (λ a. after_reference a.1 (λ b. guard (is_below_either W B eq_heap a.0 && is_below_either W B eq_heap b.0 && agree W B a.0 b.0) b.1) (compared W B a.0)

@@ -1,27 +1,28 @@
 -- What the rules type, the machine accepts, whatever operands stand for the types.
-use Rattle.std.proofs.Common.{◌≡◌, refl, sym, ap, subst, ◌∙◌, ℕ, Bool, true, false, ◌&&◌, ◌==◌, List, [], ◌∷◌, ◌++◌, length, Option, Some, is_some, option_map, slice_get, append_assoc, arith}
+use Rattle.std.proofs.Common.{◌≡◌, refl, sym, ap, subst, ◌∙◌, ℕ, Bool, true, false, ◌&&◌, ◌==◌, List, [], ◌∷◌, ◌++◌, length, Option, Some, None, is_some, option_map, slice_get, append_assoc, arith}
 use Rattle.std.proofs.lemmas.Bool.Decides.{Decides-eqb}
-use Rattle.wasm_operator_steps.specs.WasmSpecRules.WasmSpec.Syntax.{AbstractHeap, eq_heap, Heap, abstract_heap, Ref, Val, i32, reference}
+use Rattle.wasm_operator_steps.specs.WasmSpecRules.WasmSpec.Syntax.{AbstractHeap, eq_heap, Heap, abstract_heap, concrete, exact, Ref, Val, i32, reference}
 use Rattle.wasm_operator_steps.specs.WasmSpecRules.WasmSpec.MatchingTests.{World}
 use Rattle.wasm_operator_steps.specs.WasmSpecRules.Attempts.{◌>>=◌, guard, passes, last_of, front_of}
 use Rattle.wasm_operator_steps.specs.WasmSpecRules.Signatures.{Signature}
 use Rattle.wasm_operator_steps.specs.Matching.{matches_vals}
 use Rattle.wasm_operators.specs.Control.{Block}
 use Rattle.wasm_operator_steps.specs.Bodies.{Local, Surroundings}
-use Rattle.wasm_operator_steps.specs.Machine.{Kind, if_kind, else_kind, legacy_try_kind, legacy_catch_kind, legacy_catch_all_kind, has_caught, non_null, same_number}
-use Rattle.wasm_operator_steps.specs.Actions.{OperandTypes, label, local, last, front, Check, Action, take, give, take_any, take_reference, take_below, take_comparable, make_non_null, convert, choose, stop, set, branch_on_null, branch_to_one_of, find_caught}
+use Rattle.wasm_operator_steps.specs.Machine.{Kind, if_kind, else_kind, legacy_try_kind, legacy_catch_kind, legacy_catch_all_kind, has_caught, known, non_null, same_number}
+use Rattle.wasm_operator_steps.specs.Actions.{OperandTypes, label, local, last, front, Check, Action, take, give, take_any, take_reference, take_below, take_comparable, make_non_null, convert, describe, choose, stop, set, branch_on_null, branch_to_one_of, find_caught}
 use Rattle.wasm_operator_steps.specs.Shapes.{Shape, one, legacy_checks, shape_of}
-use Rattle.wasm_operator_steps.specs.Meanings.{label_by, resolve_block, block_signature, is_below_either, agree, may_end}
+use Rattle.wasm_operator_steps.specs.Meanings.{label_by, resolve_block, block_signature, descriptor_at, is_below_either, agree, may_end}
 use Rattle.wasm_operator_steps.specs.Meanings as meaning
 use Rattle.wasm_operator_steps.specs.Steps.{actions_of, checked}
 use Rattle.wasm_spec_instructions.specs.Code.{Opening, a_block, a_loop, an_if, a_try, a_try_table, Handler, a_catch, a_catch_all, Code, done, simply, enclosing, choosing_between, handling, delegating_to, Handlers, last_handler, catch_before, and_then, kind_of, block_of, checks_of, condition_of, handler_checks, handler_operands}
 use Rattle.wasm_spec_instructions.specs.ValueTypes.{ValueType, val, reference_at, reference_type, vals, matches_type, Match, none, each, IsInOrder}
 use Rattle.wasm_spec_instructions.specs.Scopes.{Scope, labelled, inside, in_handler, is_set, types_in, holds_in, AllHold}
-use Rattle.wasm_spec_instructions.specs.Rules.{MatchLabels, Rule, plain_rule, ending_rule, dropping_rule, choosing_rule, testing_null_rule, asserting_non_null_rule, branching_on_null_rule, branching_on_non_null_rule, branching_by_table_rule, setting_rule, giving_back_rule, measuring_rule, comparing_rule, converting_rule, rethrowing_rule}
+use Rattle.wasm_spec_instructions.specs.Rules.{MatchLabels, Rule, plain_rule, ending_rule, dropping_rule, choosing_rule, testing_null_rule, asserting_non_null_rule, branching_on_null_rule, branching_on_non_null_rule, branching_by_table_rule, setting_rule, giving_back_rule, measuring_rule, comparing_rule, converting_rule, describing_exactly_rule, describing_rule, rethrowing_rule}
 use Rattle.wasm_spec_instructions.specs.Sequences.{Opens, Catches, Typed, empty_rule, instruction_rule, block_rule, loop_rule, if_rule, if_else_rule, try_table_rule, try_rule, handling_rule, delegating_rule, sequence_rule, frame_rule, subsumption_rule, Handle, last_rule, before_rule}
 use Rattle.wasm_spec_instructions.proofs.Attempts.{the_same, bind-bind, bind-at, guard-at, last-of_last, front-of_last}
-use Rattle.wasm_spec_instructions.proofs.Within.{Stack, Entered, lpops, lpush, lput, stopped, starting, fresh, without, deeper, choose_of, and_choose, put_non_null, given_back, null_for, null_at, in_table, table_for, lfit, lend, below, compared, compare_of, converting_to, lgrown, is_caught, lrun, entered, taking, signed, lenter_block, lenter, lshut, lcatch, ldelegate, check, handle}
-use Rattle.wasm_spec_instructions.proofs.Fits.{onto, onto-append, rev-rev, FitsStack, fits-any, fits-sub, match-onto, match-itself, match-true, pop_any-complete, pops-complete, push-complete, end-complete, fresh-sound}
+use Rattle.wasm_spec_instructions.proofs.Within.{Stack, Entered, lpops, lpush, lput, stopped, starting, fresh, without, deeper, choose_of, and_choose, put_non_null, given_back, null_for, null_at, in_table, table_for, ldescribed_by, ldescribed, described_of, lfit, lend, below, compared, compare_of, converting_to, lgrown, is_caught, lrun, entered, taking, signed, lenter_block, lenter, lshut, lcatch, ldelegate, check, handle}
+use Rattle.wasm_spec_instructions.proofs.Describing.{left-same}
+use Rattle.wasm_spec_instructions.proofs.Fits.{onto, onto-append, rev-rev, FitsStack, fits-any, fits-sub, match-onto, val-itself, match-itself, match-true, pop_any-complete, pops-complete, push-complete, end-complete, fresh-sound}
 use Rattle.wasm_spec_instructions.proofs.References.{pop_reference-complete, pop_fitting-complete, below-complete, agree-both, converted-complete, chosen-complete}
 use Rattle.wasm_spec_instructions.proofs.Sets.{pops-sets, Covers, covers-more, set-covered, holds-more, taken-same, covering-behind}
 
@@ -184,6 +185,45 @@ module _ {R : Type 0} (W : World R) (o : IsInOrder W) (B : Surroundings R) where
           (converted-complete W o B k j a.0.0 n s a.4 b.1, a.5),
         )
 
+    -- one stack for another
+    as_left : (p q : Stack R) (ws : List (ValueType R)) → p ≡ q → FitsStack W p ws → FitsStack W q ws
+    as_left p q ws e h = subst (λ (z : Stack R). FitsStack W z ws) e h
+
+    -- a description of what was popped as a reference to exactly a type, or only to the type
+    describing_as :
+        (n : ℕ) (a b : R) (p q : Stack R) (o r : Option (Stack R)) → slice_get B.context.types n ≡ Some a → descriptor_at W B n ≡ Some b
+        → lpops W (reference_at true (exact a) ∷ []) p ≡ o → lpops W (reference_at true (concrete a) ∷ []) p ≡ r → ldescribed_by b o r ≡ Some q → lrun W B C (describe n ∷ []) p ≡ Some q
+    describing_as n a b p q o r e f g h i =
+        bind-at (λ z. Some z) (bind-at (described_of W B n p) e (bind-at (λ x. ldescribed W a x p) f ((λ j. ldescribed_by b (g j) (h j)) ∙ i))) refl
+
+    describing_exactly-complete :
+        (n : ℕ) (a b : R) (ws : List (ValueType R)) (p : Stack R) → slice_get B.context.types n ≡ Some a → descriptor_at W B n ≡ Some b
+        → FitsStack W p (val (reference_at true (exact a)) ∷ ws) → Leads (lrun W B C (describe n ∷ []) p) (val (reference_at false (exact b)) ∷ ws)
+    describing_exactly-complete n a b ws p e f h =
+        let k = pops-complete W (reference_at true (exact a) ∷ []) p ws h in
+        let q = lput (known (reference_at false (exact b))) k.0 in
+        (q, describing_as n a b p q (Some k.0) (lpops W (reference_at true (concrete a) ∷ []) p) e f k.1 refl refl, (val-itself W o (reference_at false (exact b)), k.2))
+
+    describing-complete :
+        (n : ℕ) (a b : R) (ws : List (ValueType R)) (p : Stack R) → slice_get B.context.types n ≡ Some a → descriptor_at W B n ≡ Some b
+        → FitsStack W p (val (reference_at true (concrete a)) ∷ ws) → Leads (lrun W B C (describe n ∷ []) p) (val (reference_at false (concrete b)) ∷ ws)
+    describing-complete n a b ws p e f h = go (lpops W (reference_at true (exact a) ∷ []) p) refl
+      where
+        k : Leads (lpops W (reference_at true (concrete a) ∷ []) p) ws
+        k = pops-complete W (reference_at true (concrete a) ∷ []) p ws h
+
+        go : (r : Option (Stack R)) → lpops W (reference_at true (exact a) ∷ []) p ≡ r → Leads (lrun W B C (describe n ∷ []) p) (val (reference_at false (concrete b)) ∷ ws)
+        go (Some q) g = (
+          lput (known (reference_at false (exact b))) q,
+          describing_as n a b p (lput (known (reference_at false (exact b))) q) (Some q) (Some k.0) e f g k.1 refl,
+          (o.itself (concrete b), as_left k.0 q ws (left-same W (reference_at true (concrete a)) (reference_at true (exact a)) p k.0 q k.1 g) k.2),
+        )
+        go None g = (
+          lput (known (reference_at false (concrete b))) k.0,
+          describing_as n a b p (lput (known (reference_at false (concrete b))) k.0) None (Some k.0) e f g k.1 refl,
+          (val-itself W o (reference_at false (concrete b)), k.2),
+        )
+
     -- operands under other names
     as_stack : (p : Stack R) {ts us : List (ValueType R)} → ts ≡ us → FitsStack W p ts → FitsStack W p us
     as_stack p e h = subst (λ (z : List (ValueType R)). FitsStack W p z) e h
@@ -239,6 +279,10 @@ module _ {R : Type 0} (W : World R) (o : IsInOrder W) (B : Surroundings R) where
         behind_checks cs (take_comparable ∷ give t ∷ []) p (onto (vals bs) ws) h v (comparing-complete (give t ∷ []) f ws (onto (vals bs) ws) p k (λ q g. give-complete t bs ws q e g))
     rule-complete s ts us ws p v (converting_rule {cs = cs} {j = i} {k = j} n f h) k =
         behind_checks cs (convert i j ∷ []) p (val (reference_at n (abstract_heap f j)) ∷ ws) h v (converting-complete i j n f ws p k)
+    rule-complete s ts us ws p v (describing_exactly_rule {cs = cs} {n = n} {a = a} {b = b} h e f) k =
+        behind_checks cs (describe n ∷ []) p (val (reference_at false (exact b)) ∷ ws) h v (describing_exactly-complete n a b ws p e f k)
+    rule-complete s ts us ws p v (describing_rule {cs = cs} {n = n} {a = a} {b = b} h e f) k =
+        behind_checks cs (describe n ∷ []) p (val (reference_at false (concrete b)) ∷ ws) h v (describing-complete n a b ws p e f k)
 
   -- code
   check-both : (D : Scope R) (c d : Code) (p : Stack R) → check W B D (and_then c d) p ≡ (check W B D c p >>= check W B D d)

@@ -1,17 +1,18 @@
 -- What is typed in a scope is typed in each that has more; and code that is typed is proper.
-use Rattle.std.proofs.Common.{◌≡◌, refl, ap, ◌∙◌, ℕ, zero, suc, Bool, true, false, List, [], ◌∷◌, ◌++◌, Option, Some, None, option_map, slice_get}
+use Rattle.std.proofs.Common.{◌≡◌, refl, ap, ◌∙◌, ℕ, zero, suc, Bool, true, false, List, [], ◌∷◌, ◌++◌, length, Option, Some, None, option_map, slice_get}
 use Rattle.wasm_operator_steps.specs.WasmSpecRules.WasmSpec.Syntax.{Val}
 use Rattle.wasm_operator_steps.specs.WasmSpecRules.WasmSpec.MatchingTests.{World}
 use Rattle.wasm_operator_steps.specs.WasmSpecRules.Attempts.{◌>>=◌, passes, front_of, last_of, list_of}
 use Rattle.wasm_operator_steps.specs.Matching.{matches_vals, match_some}
 use Rattle.wasm_operator_steps.specs.Bodies.{Surroundings}
-use Rattle.wasm_operator_steps.specs.Actions.{OperandTypes, these, params, results, label, returned, local, global, function_reference, new_reference, fields, element, field, table_address, memory_address, table_element, segment, lesser_table_address, lesser_memory_address, top, descriptor_of, descriptor_for, repeated, front, last, joined, Check, has, allows, global_is_mutable, local_is_set, function_is_referenced, is_exception, each_matches, each_matches_some, may_be_cast, can_be_tested, is_aligned, suits, fields_have_defaults, has_no_descriptor, field_is_mutable, field_is_packed, element_is_mutable, element_has_default, element_is_number, element_is_packed, element_is_storable, data_is_there, segment_is_there, reaches_global, reaches_table, reaches_type, reaches_function}
+use Rattle.wasm_operator_steps.specs.Actions as actions
+use Rattle.wasm_operator_steps.specs.Actions.{OperandTypes, these, params, results, label, returned, local, global, function_reference, new_reference, fields, element, field, table_address, memory_address, table_element, segment, lesser_table_address, lesser_memory_address, top, descriptor_of, descriptor_for, repeated, front, last, continued, taken_by, given_by, joined, before, Check, has, allows, global_is_mutable, local_is_set, function_is_referenced, is_exception, each_matches, each_matches_some, may_be_cast, can_be_tested, is_aligned, suits, fields_have_defaults, has_no_descriptor, field_is_mutable, field_is_packed, element_is_mutable, element_has_default, element_is_number, element_is_packed, element_is_storable, data_is_there, segment_is_there, reaches_global, reaches_table, reaches_type, reaches_function}
 use Rattle.wasm_operator_steps.specs.Shapes.{Shape, shape_of}
-use Rattle.wasm_operator_steps.specs.Meanings.{copies}
+use Rattle.wasm_operator_steps.specs.Meanings.{copies, all_but, last_ones, continued_signature}
 use Rattle.wasm_spec_instructions.specs.Code.{Opening, Handler, Code, done, simply, enclosing, choosing_between, handling, delegating_to, Handlers, and_then, checks_of, handler_checks, handler_operands, is_simple, IsProper, AreProper}
 use Rattle.wasm_spec_instructions.specs.ValueTypes.{ValueType}
 use Rattle.wasm_spec_instructions.specs.Scopes.{Scope, labelled, inside, in_handler, behind, types_in, holds_in, AllHold, AreSet}
-use Rattle.wasm_spec_instructions.specs.Rules.{MatchLabels, Rule, plain_rule, ending_rule, dropping_rule, choosing_rule, testing_null_rule, asserting_non_null_rule, branching_on_null_rule, branching_on_non_null_rule, branching_by_table_rule, setting_rule, giving_back_rule, measuring_rule, comparing_rule, converting_rule, rethrowing_rule}
+use Rattle.wasm_spec_instructions.specs.Rules.{MatchLabels, Rule, plain_rule, ending_rule, dropping_rule, choosing_rule, testing_null_rule, asserting_non_null_rule, branching_on_null_rule, branching_on_non_null_rule, branching_by_table_rule, setting_rule, giving_back_rule, measuring_rule, comparing_rule, converting_rule, describing_exactly_rule, describing_rule, rethrowing_rule}
 use Rattle.wasm_spec_instructions.specs.Sequences.{Opens, Catches, Typed, empty_rule, instruction_rule, block_rule, loop_rule, if_rule, if_else_rule, try_table_rule, try_rule, handling_rule, delegating_rule, sequence_rule, frame_rule, subsumption_rule, Handle, last_rule, before_rule}
 use Rattle.wasm_spec_instructions.specs.Consequences.{Extends, ScopesMayGrow, TypedCodeIsProper}
 use Rattle.wasm_operator_steps.specs.WasmSpecRules.Signatures.{Signature}
@@ -37,6 +38,9 @@ unfolding Finds
 itself-finds o a e = e
 
 module _ {R : Type 0} (W : World R) (B : Surroundings R) where
+  signature-finds : (o p : Option (List (Val R))) → Finds o p → Finds (o >>= continued_signature W B) (p >>= continued_signature W B)
+  signature-finds o p h = bind-finds (continued_signature W B) (continued_signature W B) o p h (λ vs. itself-finds (continued_signature W B vs))
+
   module _ (L M : List (List (Val R))) (r s : Option (List (Val R))) (h : (n : ℕ) → Finds (slice_get L n) (slice_get M n)) (k : Finds r s) where
     types-grow : (t : OperandTypes) → Finds (types_in W B L r t) (types_in W B M s t)
     types-grow (label n) = h n
@@ -46,6 +50,14 @@ module _ {R : Type 0} (W : World R) (B : Surroundings R) where
     types-grow (last t) =
         map-finds list_of (types_in W B L r t >>= last_of) (types_in W B M s t >>= last_of)
         (bind-finds last_of last_of (types_in W B L r t) (types_in W B M s t) (types-grow t) (λ vs. itself-finds (last_of vs)))
+    types-grow (taken_by t) = map-finds (λ (g : Signature R). g.takes) (types_in W B L r t >>= continued_signature W B) (types_in W B M s t >>= continued_signature W B) (signature-finds (types_in W B L r t) (types_in W B M s t) (types-grow t))
+    types-grow (given_by t) = map-finds (λ (g : Signature R). g.gives) (types_in W B L r t >>= continued_signature W B) (types_in W B M s t >>= continued_signature W B) (signature-finds (types_in W B L r t) (types_in W B M s t) (types-grow t))
+    types-grow (before t u) =
+        bind-finds (λ vs. types_in W B L r u >>= λ ws. all_but (length ws) vs) (λ vs. types_in W B M s u >>= λ ws. all_but (length ws) vs) (types_in W B L r t) (types_in W B M s t) (types-grow t)
+        (λ vs. bind-finds (λ ws. all_but (length ws) vs) (λ ws. all_but (length ws) vs) (types_in W B L r u) (types_in W B M s u) (types-grow u) (λ ws. itself-finds (all_but (length ws) vs)))
+    types-grow (actions.behind t u) =
+        bind-finds (λ vs. types_in W B L r u >>= λ ws. last_ones (length ws) vs) (λ vs. types_in W B M s u >>= λ ws. last_ones (length ws) vs) (types_in W B L r t) (types_in W B M s t) (types-grow t)
+        (λ vs. bind-finds (λ ws. last_ones (length ws) vs) (λ ws. last_ones (length ws) vs) (types_in W B L r u) (types_in W B M s u) (types-grow u) (λ ws. itself-finds (last_ones (length ws) vs)))
     types-grow (joined t u) =
         bind-finds (λ vs. types_in W B L r u >>= λ ws. Some (vs ++ ws)) (λ vs. types_in W B M s u >>= λ ws. Some (vs ++ ws)) (types_in W B L r t) (types_in W B M s t) (types-grow t)
         (λ vs. bind-finds (λ ws. Some (vs ++ ws)) (λ ws. Some (vs ++ ws)) (types_in W B L r u) (types_in W B M s u) (types-grow u) (λ ws. itself-finds (Some (vs ++ ws))))
@@ -67,6 +79,7 @@ module _ {R : Type 0} (W : World R) (B : Surroundings R) where
     types-grow (lesser_memory_address m n) = itself-finds (types_in W B L r (lesser_memory_address m n))
     types-grow (top q) = itself-finds (types_in W B L r (top q))
     types-grow (descriptor_of n) = itself-finds (types_in W B L r (descriptor_of n))
+    types-grow (continued n) = itself-finds (types_in W B L r (continued n))
     types-grow (descriptor_for x) = itself-finds (types_in W B L r (descriptor_for x))
 
     each-grows : (t u : OperandTypes) → passes (λ vs. passes (matches_vals W vs) (types_in W B L r u)) (types_in W B L r t) ≡ true → passes (λ vs. passes (matches_vals W vs) (types_in W B M s u)) (types_in W B M s t) ≡ true
@@ -143,6 +156,8 @@ module _ {R : Type 0} (W : World R) (B : Surroundings R) where
     rule-grows s ts us (measuring_rule {cs = cs} {t = t} {us = vs} b h e) = measuring_rule b (all-grow cs h) (found t vs e)
     rule-grows s ts us (comparing_rule {cs = cs} {t = t} {us = vs} b h e) = comparing_rule b (all-grow cs h) (found t vs e)
     rule-grows s ts us (converting_rule {cs = cs} n b h) = converting_rule n b (all-grow cs h)
+    rule-grows s ts us (describing_exactly_rule {cs = cs} h e f) = describing_exactly_rule (all-grow cs h) e f
+    rule-grows s ts us (describing_rule {cs = cs} h e f) = describing_rule (all-grow cs h) e f
 
     opens-grow : (y : Opening) (g : Signature R) → Opens W B C y g → Opens W B D y g
     opens-grow y g h = record { block = h.block; holds = all-grow (checks_of y) h.holds; resolves = h.resolves; signed = h.signed }
@@ -214,6 +229,8 @@ ruled-simple W B C s ts us (giving_back_rule l e) = refl
 ruled-simple W B C s ts us (measuring_rule b h e) = refl
 ruled-simple W B C s ts us (comparing_rule b h e) = refl
 ruled-simple W B C s ts us (converting_rule n b h) = refl
+ruled-simple W B C s ts us (describing_exactly_rule h e f) = refl
+ruled-simple W B C s ts us (describing_rule h e f) = refl
 
 both-proper : (c d : Code) → IsProper c → IsProper d → IsProper (and_then c d)
 both-proper done d h k = k

@@ -1,5 +1,6 @@
 pub mod Attempts
 pub mod Within
+pub mod Describing
 pub mod Bridge
 pub mod Structure
 pub mod Outer

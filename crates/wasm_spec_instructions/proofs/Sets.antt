@@ -5,15 +5,17 @@ use Rattle.wasm_operator_steps.specs.WasmSpecRules.WasmSpec.Syntax.{Val, eq_heap
 use Rattle.wasm_operator_steps.specs.WasmSpecRules.WasmSpec.MatchingTests.{World}
 use Rattle.wasm_operator_steps.specs.WasmSpecRules.Attempts.{passes, among}
 use Rattle.wasm_operator_steps.specs.Bodies.{Surroundings}
-use Rattle.wasm_operator_steps.specs.Machine.{Operand, as_reference, chosen, non_null, matches_operand}
-use Rattle.wasm_operator_steps.specs.Actions.{OperandTypes, Check, has, allows, global_is_mutable, local_is_set, function_is_referenced, is_exception, each_matches, each_matches_some, may_be_cast, can_be_tested, is_aligned, suits, fields_have_defaults, has_no_descriptor, field_is_mutable, field_is_packed, element_is_mutable, element_has_default, element_is_number, element_is_packed, element_is_storable, data_is_there, segment_is_there, reaches_global, reaches_table, reaches_type, reaches_function, Action, need, refuse, take, give, take_any, take_reference, take_comparable, make_non_null, choose, stop, turn_to_else, leave, take_below, convert, enter, set, branch_on_null, branch_to_one_of, turn_to_catch, find_outside, find_caught}
-use Rattle.wasm_operator_steps.specs.Shapes.{Shape, plain, ending, opening, closing, turning, dropping, choosing, never, testing_null, asserting_non_null, branching_on_null, branching_on_non_null, branching_by_table, setting, giving_back, measuring, comparing, converting, catching, delegating, rethrowing}
-use Rattle.wasm_operator_steps.specs.Meanings.{is_below_either, agree, converted}
+use Rattle.wasm_operator_steps.specs.Machine.{Operand, known, as_reference, chosen, non_null, matches_operand}
+use Rattle.wasm_operator_steps.specs.Actions.{OperandTypes, Check, has, allows, global_is_mutable, local_is_set, function_is_referenced, is_exception, each_matches, each_matches_some, may_be_cast, can_be_tested, is_aligned, suits, fields_have_defaults, has_no_descriptor, field_is_mutable, field_is_packed, element_is_mutable, element_has_default, element_is_number, element_is_packed, element_is_storable, data_is_there, segment_is_there, reaches_global, reaches_table, reaches_type, reaches_function, Action, need, refuse, take, give, take_any, take_reference, take_comparable, make_non_null, choose, stop, turn_to_else, leave, take_below, convert, describe, enter, set, branch_on_null, branch_to_one_of, turn_to_catch, find_outside, find_caught}
+use Rattle.wasm_operator_steps.specs.Shapes.{Shape, plain, ending, opening, closing, turning, dropping, choosing, never, testing_null, asserting_non_null, branching_on_null, branching_on_non_null, branching_by_table, setting, giving_back, measuring, comparing, converting, describing, catching, delegating, rethrowing}
+use Rattle.wasm_operator_steps.specs.Meanings.{descriptor_at, is_below_either, agree, converted}
 use Rattle.wasm_operator_steps.specs.Steps.{actions_of, checked}
+use Rattle.wasm_spec_instructions.specs.ValueTypes.{reference_at}
 use Rattle.wasm_spec_instructions.specs.Scopes.{Scope, is_set, types_in, holds_in, AreSet}
 use Rattle.wasm_spec_instructions.specs.Rules.{sets_of}
 use Rattle.wasm_spec_instructions.proofs.Attempts.{absent, the_same, bind-gives, guard-gives}
-use Rattle.wasm_spec_instructions.proofs.Within.{Stack, lpop_in, lpop, lpop_val, matched, lpops, referring, referred, lpop_reference, lpush, lput, lfit, without, below, compared, compare_of, put_non_null, converting_to, and_choose, choose_of, null_for, null_at, given_back, in_table, table_for, stopped, lgrown, is_caught, lact, lrun}
+use Rattle.wasm_spec_instructions.proofs.Within.{Stack, lpop_in, lpop, lpop_val, matched, lpops, referring, referred, lpop_reference, lpush, lput, lfit, without, below, compared, compare_of, put_non_null, converting_to, and_choose, choose_of, null_for, null_at, given_back, in_table, table_for, ldescribed, described_of, stopped, lgrown, is_caught, lact, lrun}
+use Rattle.wasm_spec_instructions.proofs.Describing.{at_type, described-gives}
 
 or-mid : (f c a b : Bool) → (f || a) ≡ (f || b) → (f || (c || a)) ≡ (f || (c || b))
 or-mid true c a b e = refl
@@ -178,6 +180,11 @@ module _ {R : Type 0} (W : World R) (B : Surroundings R) where
         let f = bind-gives (lpop_reference p) (converting_to W B j k) q e in
         let g = guard-gives (is_below_either W B j f.0.0) (lput (converted W B k f.0.0) f.0.1) q f.2 in
         kept p q (same_sets (lput (converted W B k f.0.0) f.0.1) q g.1 ∙ pop_reference-sets p f.0 f.1)
+    act-same (describe n) p q e =
+        let a = bind-gives (slice_get B.context.types n) (described_of W B n p) q e in
+        let b = bind-gives (descriptor_at W B n) (λ x. ldescribed W a.0 x p) q a.2 in
+        let d = described-gives W a.0 b.0 p q b.2 in
+        kept p q (same_sets (lput (known (reference_at false (at_type d.exactly b.0))) d.left) q d.is ∙ pops-sets W (reference_at true (at_type d.exactly a.0) ∷ []) p d.left d.pops)
     act-same take_comparable p q e =
         let f = bind-gives (lpop_reference p) (compare_of W B) q e in
         let h = bind-gives (lpop_reference f.0.1) (compared W B f.0.0) q f.2 in
@@ -233,6 +240,7 @@ module _ {R : Type 0} (W : World R) (B : Surroundings R) where
     shape-adds (measuring cs k t) = checked-adds cs (take_below k ∷ give t ∷ []) refl
     shape-adds (comparing cs t) = checked-adds cs (take_comparable ∷ give t ∷ []) refl
     shape-adds (converting cs j k) = checked-adds cs (convert j k ∷ []) refl
+    shape-adds (describing cs n) = checked-adds cs (describe n ∷ []) refl
     shape-adds (catching cs t k) = checked-adds cs (turn_to_catch t k ∷ []) refl
     shape-adds (delegating cs l) = checked-adds cs (find_outside l ∷ leave ∷ []) refl
     shape-adds (rethrowing cs l) = checked-adds cs (find_caught l ∷ stop ∷ []) refl

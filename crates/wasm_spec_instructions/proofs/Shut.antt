@@ -4,14 +4,16 @@ use Rattle.wasm_operator_steps.specs.WasmSpecRules.WasmSpec.Syntax.{eq_heap, Val
 use Rattle.wasm_operator_steps.specs.WasmSpecRules.WasmSpec.MatchingTests.{World}
 use Rattle.wasm_operator_steps.specs.Bodies.{Surroundings}
 use Rattle.wasm_operator_steps.specs.Machine.{Operand, bottom, bottom_reference, open_reference, known, pushed_onto, as_reference, non_null, same_number, chosen, matches_operand}
-use Rattle.wasm_operator_steps.specs.Actions.{OperandTypes, Check, Action, need, refuse, take, give, take_any, take_reference, take_comparable, make_non_null, choose, stop, turn_to_else, leave, take_below, convert, enter, set, branch_on_null, branch_to_one_of, turn_to_catch, find_outside, find_caught}
-use Rattle.wasm_operator_steps.specs.Shapes.{Shape, plain, ending, opening, closing, turning, dropping, choosing, never, testing_null, asserting_non_null, branching_on_null, branching_on_non_null, branching_by_table, setting, giving_back, measuring, comparing, converting, catching, delegating, rethrowing}
-use Rattle.wasm_operator_steps.specs.Meanings.{is_below_either, agree}
+use Rattle.wasm_operator_steps.specs.Actions.{OperandTypes, Check, Action, need, refuse, take, give, take_any, take_reference, take_comparable, make_non_null, choose, stop, turn_to_else, leave, take_below, convert, describe, enter, set, branch_on_null, branch_to_one_of, turn_to_catch, find_outside, find_caught}
+use Rattle.wasm_operator_steps.specs.Shapes.{Shape, plain, ending, opening, closing, turning, dropping, choosing, never, testing_null, asserting_non_null, branching_on_null, branching_on_non_null, branching_by_table, setting, giving_back, measuring, comparing, converting, describing, catching, delegating, rethrowing}
+use Rattle.wasm_operator_steps.specs.Meanings.{descriptor_at, is_below_either, agree}
 use Rattle.wasm_operator_steps.specs.Steps.{actions_of, checked}
 use Rattle.wasm_spec_instructions.specs.Scopes.{Scope, types_in, holds_in}
 use Rattle.wasm_spec_instructions.specs.Laws.{is_served}
+use Rattle.wasm_spec_instructions.specs.ValueTypes.{reference_at}
 use Rattle.wasm_spec_instructions.proofs.Attempts.{no, absent, the_same, bind-gives, guard-gives}
-use Rattle.wasm_spec_instructions.proofs.Within.{Stack, stack, lpop_in, lpop, lpop_val, matched, lpops, referring, referred, lpop_reference, lpush, lput, lfit, without, below, compared, compare_of, put_non_null, and_choose, choose_of, null_for, null_at, given_back, in_table, table_for, stopped, lgrown, is_caught, lact, lrun}
+use Rattle.wasm_spec_instructions.proofs.Within.{Stack, stack, lpop_in, lpop, lpop_val, matched, lpops, referring, referred, lpop_reference, lpush, lput, lfit, without, below, compared, compare_of, put_non_null, and_choose, choose_of, null_for, null_at, given_back, in_table, table_for, ldescribed, described_of, stopped, lgrown, is_caught, lact, lrun}
+use Rattle.wasm_spec_instructions.proofs.Describing.{at_type, described-gives}
 use Rattle.wasm_spec_instructions.proofs.Tables.{is_shut, AreShut}
 
 module _ {R : Type 0} where
@@ -103,6 +105,11 @@ module _ {R : Type 0} (W : World R) (B : Surroundings R) (C : Scope R) where
   act-shut (find_outside n) p q w e h = absurd (absent q e)
   act-shut (find_caught n) p q w e h = shut_as p q (guard-gives (is_caught W B C.caught n) p q e).1 h
   act-shut (convert j k) p q w e h = absurd w
+  act-shut (describe n) p q w e h =
+      let a = bind-gives (slice_get B.context.types n) (described_of W B n p) q e in
+      let b = bind-gives (descriptor_at W B n) (λ x. ldescribed W a.0 x p) q a.2 in
+      let d = described-gives W a.0 b.0 p q b.2 in
+      shut_as (lput (known (reference_at false (at_type d.exactly b.0))) d.left) q d.is (refl, pops-shut W (reference_at true (at_type d.exactly a.0) ∷ []) p d.left d.pops h)
   act-shut (take t) p q w e h = let f = bind-gives (types_in W B C.labels C.returns t) (λ (vs : List (Val R)). lpops W vs p) q e in pops-shut W f.0 p q f.2 h
   act-shut (give t) p q w e h =
       let f = bind-gives (types_in W B C.labels C.returns t) (λ (vs : List (Val R)). Some (lpush vs p)) q e in
@@ -172,6 +179,7 @@ module _ {R : Type 0} (W : World R) (B : Surroundings R) (C : Scope R) where
   shape-keeps (measuring cs k t) e = all_keep cs (take_below k ∷ give t ∷ []) (tt, (tt, tt))
   shape-keeps (comparing cs t) e = all_keep cs (take_comparable ∷ give t ∷ []) (tt, (tt, tt))
   shape-keeps (converting cs j k) e = no e
+  shape-keeps (describing cs n) e = all_keep cs (describe n ∷ []) (tt, tt)
   shape-keeps (catching cs t k) e = all_keep cs (turn_to_catch t k ∷ []) (tt, tt)
   shape-keeps (delegating cs l) e = all_keep cs (find_outside l ∷ leave ∷ []) (tt, (tt, tt))
   shape-keeps (rethrowing cs l) e = all_keep cs (find_caught l ∷ stop ∷ []) (tt, (tt, tt))

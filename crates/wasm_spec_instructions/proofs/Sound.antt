@@ -5,18 +5,19 @@ use Rattle.wasm_operator_steps.specs.WasmSpecRules.WasmSpec.Syntax.{AbstractHeap
 use Rattle.wasm_operator_steps.specs.WasmSpecRules.WasmSpec.MatchingTests.{World}
 use Rattle.wasm_operator_steps.specs.WasmSpecRules.Attempts.{◌>>=◌, guard, last_of, front_of}
 use Rattle.wasm_operator_steps.specs.Bodies.{Local, Surroundings}
-use Rattle.wasm_operator_steps.specs.Machine.{Operand, non_null, chosen, pushed_onto}
-use Rattle.wasm_operator_steps.specs.Actions.{OperandTypes, label, local, last, front, Check, Action, take, give, take_any, take_reference, take_below, take_comparable, make_non_null, convert, choose, stop, set, branch_on_null, branch_to_one_of, find_caught}
-use Rattle.wasm_operator_steps.specs.Shapes.{Shape, plain, ending, opening, closing, turning, dropping, choosing, never, testing_null, asserting_non_null, branching_on_null, branching_on_non_null, branching_by_table, setting, giving_back, measuring, comparing, converting, one, catching, delegating, rethrowing}
-use Rattle.wasm_operator_steps.specs.Meanings.{is_below_either, agree, converted}
+use Rattle.wasm_operator_steps.specs.Machine.{Operand, known, non_null, chosen, pushed_onto}
+use Rattle.wasm_operator_steps.specs.Actions.{OperandTypes, label, local, last, front, Check, Action, take, give, take_any, take_reference, take_below, take_comparable, make_non_null, convert, describe, choose, stop, set, branch_on_null, branch_to_one_of, find_caught}
+use Rattle.wasm_operator_steps.specs.Shapes.{Shape, plain, ending, opening, closing, turning, dropping, choosing, never, testing_null, asserting_non_null, branching_on_null, branching_on_non_null, branching_by_table, setting, giving_back, measuring, comparing, converting, describing, one, catching, delegating, rethrowing}
+use Rattle.wasm_operator_steps.specs.Meanings.{descriptor_at, is_below_either, agree, converted}
 use Rattle.wasm_operator_steps.specs.Meanings as meaning
 use Rattle.wasm_operator_steps.specs.Steps.{actions_of, checked}
 use Rattle.wasm_spec_instructions.specs.Code.{is_simple}
 use Rattle.wasm_spec_instructions.specs.ValueTypes.{ValueType, val, reference_at, reference_type, vals, matches_type, Match, none, each, IsInOrder}
 use Rattle.wasm_spec_instructions.specs.Scopes.{Scope, types_in, holds_in, AllHold}
-use Rattle.wasm_spec_instructions.specs.Rules.{Rule, plain_rule, ending_rule, dropping_rule, choosing_rule, testing_null_rule, asserting_non_null_rule, branching_on_null_rule, branching_on_non_null_rule, branching_by_table_rule, setting_rule, giving_back_rule, measuring_rule, comparing_rule, converting_rule, rethrowing_rule}
+use Rattle.wasm_spec_instructions.specs.Rules.{Rule, plain_rule, ending_rule, dropping_rule, choosing_rule, testing_null_rule, asserting_non_null_rule, branching_on_null_rule, branching_on_non_null_rule, branching_by_table_rule, setting_rule, giving_back_rule, measuring_rule, comparing_rule, converting_rule, describing_exactly_rule, describing_rule, rethrowing_rule}
 use Rattle.wasm_spec_instructions.proofs.Attempts.{no, the_same, absent, bind-gives, guard-gives, passes-gives, and-both, with_last}
-use Rattle.wasm_spec_instructions.proofs.Within.{Stack, lpop, lpops, lpush, lput, lpop_reference, stopped, without, choose_of, and_choose, put_non_null, given_back, null_for, null_at, in_table, table_for, lfit, below, compared, compare_of, converting_to, lgrown, is_caught, lact, lrun}
+use Rattle.wasm_spec_instructions.proofs.Within.{Stack, lpop, lpops, lpush, lput, lpop_reference, stopped, without, choose_of, and_choose, put_non_null, given_back, null_for, null_at, in_table, table_for, ldescribed, described_of, lfit, below, compared, compare_of, converting_to, lgrown, is_caught, lact, lrun}
+use Rattle.wasm_spec_instructions.proofs.Describing.{at_type, described-gives}
 use Rattle.wasm_spec_instructions.proofs.Fits.{onto, rev, onto-append, rev-rev, fits_type, Fits, FitsStack, fits-through, match-append, match-itself, pop_any-sound, pops-sound, Split, push-sound, some_type, some_types}
 use Rattle.wasm_spec_instructions.proofs.References.{Referred, pop_reference-sound, pop_fitting-sound, raised, is_reference, Chosen, chosen-sound, below-with, shared_by, shared_by_both, converted-sound}
 use Rattle.wasm_spec_instructions.proofs.Sets.{Covers, holds-more}
@@ -425,6 +426,32 @@ module _ {R : Type 0} (W : World R) (o : IsInOrder W) (B : Surroundings R) (C : 
         fits = pop_fitting-sound W o p b.0 (record { nullable = s.0; heap = abstract_heap s.1 j }) ws b.1 s.2 w;
       })
 
+  described_rule :
+      (exactly : Bool) (cs : List Check) (n : ℕ) (a b : R) → AllHold W B D cs → slice_get B.context.types n ≡ Some a → descriptor_at W B n ≡ Some b
+      → Rule W B D (describing cs n) (val (reference_at true (at_type exactly a)) ∷ []) (val (reference_at false (at_type exactly b)) ∷ [])
+  described_rule true cs n a b h e f = describing_exactly_rule h e f
+  described_rule false cs n a b h e f = describing_rule h e f
+
+  describing-sound : (cs : List Check) (n : ℕ) (p q : Stack R) (zs : List (ValueType R)) → AllHold W B D cs → Ran (describe n ∷ []) p q → FitsStack W q zs → Ruled W B D (describing cs n) p zs
+  describing-sound cs n p q zs c e h =
+      let a = bind-gives (slice_get B.context.types n >>= described_of W B n p) (λ r. Some r) q e in
+      let b = bind-gives (slice_get B.context.types n) (described_of W B n p) a.0 a.1 in
+      let d = bind-gives (descriptor_at W B n) (λ x. ldescribed W b.0 x p) a.0 b.2 in
+      let g = described-gives W b.0 d.0 p a.0 d.2 in
+      let x = known (reference_at false (at_type g.exactly d.0)) in
+      with_top x g.left.unreached g.left.items zs (as_fits (lput x g.left) q zs (g.is ∙ the_same a.0 q a.2) h)
+      (λ z ws i m w.
+      record {
+        takes = val (reference_at true (at_type g.exactly b.0)) ∷ [];
+        gives = val (reference_at false (at_type g.exactly d.0)) ∷ [];
+        greater = z ∷ [];
+        back = ws;
+        rule = described_rule g.exactly cs n b.0 d.0 c b.1 d.1;
+        is = i;
+        match = each m none;
+        fits = pops-sound W (reference_at true (at_type g.exactly b.0) ∷ []) p g.left ws g.pops w;
+      })
+
   pub rule-sound :
       (s : Shape) (p q : Stack R) (zs : List (ValueType R)) → is_simple s ≡ true → IsReady W C.labels s p → Covers W B (p.sets ++ C.sets) S → Ran (actions_of s) p q → FitsStack W q zs → Ruled W B D s p zs
   rule-sound (plain cs t u) p q zs i t₀ v e h = let c = passed cs (take t ∷ give u ∷ []) p q v e in plain-sound cs t u p q zs c.0 c.1 h
@@ -449,3 +476,4 @@ module _ {R : Type 0} (W : World R) (o : IsInOrder W) (B : Surroundings R) (C : 
   rule-sound (measuring cs k t) p q zs i t₀ v e h = let c = passed cs (take_below k ∷ give t ∷ []) p q v e in measuring-sound cs k t p q zs c.0 c.1 h
   rule-sound (comparing cs t) p q zs i t₀ v e h = let c = passed cs (take_comparable ∷ give t ∷ []) p q v e in comparing-sound cs t p q zs c.0 c.1 h
   rule-sound (converting cs j k) p q zs i t₀ v e h = let c = passed cs (convert j k ∷ []) p q v e in converting-sound cs j k p q zs c.0 c.1 h
+  rule-sound (describing cs n) p q zs i t₀ v e h = let c = passed cs (describe n ∷ []) p q v e in describing-sound cs n p q zs c.0 c.1 h

@@ -7,8 +7,8 @@ use Rattle.wasm_operators.specs.Control.{Block}
 use Rattle.wasm_operators.specs.Instructions.{Instruction}
 use Rattle.wasm_operator_steps.specs.Bodies.{Surroundings}
 use Rattle.wasm_operator_steps.specs.Machine.{Kind, if_kind, else_kind, legacy_try_kind, legacy_catch_kind, is_try, may_catch, State}
-use Rattle.wasm_operator_steps.specs.Actions.{OperandTypes, Check, Action, need, take, give, take_reference, take_comparable, make_non_null, stop, leave, take_below, convert, enter, turn_to_catch, find_outside, find_caught, branch_on_null}
-use Rattle.wasm_operator_steps.specs.Shapes.{Shape, plain, ending, opening, closing, turning, dropping, choosing, never, testing_null, asserting_non_null, branching_on_null, branching_on_non_null, branching_by_table, setting, giving_back, measuring, comparing, converting, shape_of, catching, delegating, rethrowing, legacy_checks}
+use Rattle.wasm_operator_steps.specs.Actions.{OperandTypes, Check, Action, need, take, give, take_reference, take_comparable, make_non_null, stop, leave, take_below, convert, describe, enter, turn_to_catch, find_outside, find_caught, branch_on_null}
+use Rattle.wasm_operator_steps.specs.Shapes.{Shape, plain, ending, opening, closing, turning, dropping, choosing, never, testing_null, asserting_non_null, branching_on_null, branching_on_non_null, branching_by_table, setting, giving_back, measuring, comparing, converting, describing, shape_of, catching, delegating, rethrowing, legacy_checks}
 use Rattle.wasm_operator_steps.specs.Meanings.{label_by, act, run}
 use Rattle.wasm_operator_steps.specs.Steps.{actions_of, checked, step_in, steps_in}
 use Rattle.wasm_spec_instructions.specs.Scopes.{types_in}
@@ -59,6 +59,7 @@ module _ {R : Type 0} {W : World R} {B : Surroundings R} where
   simple-within P (measuring cs k t) e = all_within P cs (take_below k ∷ give t ∷ []) (tt, (tt, tt))
   simple-within P (comparing cs t) e = all_within P cs (take_comparable ∷ give t ∷ []) (tt, (tt, tt))
   simple-within P (converting cs j k) e = all_within P cs (convert j k ∷ []) (tt, tt)
+  simple-within P (describing cs n) e = all_within P cs (describe n ∷ []) (tt, tt)
   simple-within P (opening cs t k b) e = no e
   simple-within P closing e = no e
   simple-within P turning e = no e

@@ -1,17 +1,18 @@
 -- The machine within one frame: operands above the frame's height, and no frames.
-use Rattle.std.proofs.Common.{ℕ, Bool, true, false, ◌==◌, ◌&&◌, List, [], ◌∷◌, ◌++◌, length, Option, Some, None, is_some, if◌then◌else◌, slice_get}
-use Rattle.wasm_operator_steps.specs.WasmSpecRules.WasmSpec.Syntax.{AbstractHeap, eq_heap, Val}
+use Rattle.std.proofs.Common.{ℕ, Bool, true, false, ◌==◌, ◌&&◌, List, [], ◌∷◌, ◌++◌, length, Option, Some, None, option_map, is_some, if◌then◌else◌, slice_get}
+use Rattle.wasm_operator_steps.specs.WasmSpecRules.WasmSpec.Syntax.{AbstractHeap, eq_heap, concrete, exact, Val}
 use Rattle.wasm_operator_steps.specs.WasmSpecRules.WasmSpec.MatchingTests.{World}
 use Rattle.wasm_operator_steps.specs.WasmSpecRules.Attempts.{◌>>=◌, guard, passes}
 use Rattle.wasm_operator_steps.specs.WasmSpecRules.Signatures.{Signature}
 use Rattle.wasm_operators.specs.Control.{Block}
 use Rattle.wasm_operator_steps.specs.Bodies.{Surroundings}
-use Rattle.wasm_operator_steps.specs.Machine.{Operand, bottom, Kind, if_kind, else_kind, legacy_try_kind, legacy_catch_kind, has_caught, pushed_onto, as_reference, non_null, chosen, matches_operand}
-use Rattle.wasm_operator_steps.specs.Actions.{Action, need, refuse, take, give, take_any, take_reference, take_comparable, make_non_null, choose, stop, turn_to_else, leave, take_below, convert, enter, set, branch_on_null, branch_to_one_of, turn_to_catch, find_outside, find_caught}
+use Rattle.wasm_operator_steps.specs.Machine.{Operand, bottom, known, Kind, if_kind, else_kind, legacy_try_kind, legacy_catch_kind, has_caught, pushed_onto, as_reference, non_null, chosen, matches_operand}
+use Rattle.wasm_operator_steps.specs.Actions.{Action, need, refuse, take, give, take_any, take_reference, take_comparable, make_non_null, choose, stop, turn_to_else, leave, take_below, convert, describe, enter, set, branch_on_null, branch_to_one_of, turn_to_catch, find_outside, find_caught}
 use Rattle.wasm_operator_steps.specs.Shapes.{legacy_checks, shape_of}
-use Rattle.wasm_operator_steps.specs.Meanings.{label_by, resolve_block, block_signature, is_below_either, agree, converted, may_end}
+use Rattle.wasm_operator_steps.specs.Meanings.{label_by, resolve_block, block_signature, descriptor_at, is_below_either, agree, converted, may_end}
 use Rattle.wasm_operator_steps.specs.Steps.{actions_of, checked}
 use Rattle.wasm_spec_instructions.specs.Code.{Opening, an_if, a_try, Handler, a_catch, Code, done, simply, enclosing, choosing_between, handling, delegating_to, Handlers, last_handler, catch_before, kind_of, block_of, checks_of, condition_of, handler_kind, handler_checks, handler_operands}
+use Rattle.wasm_spec_instructions.specs.ValueTypes.{reference_at}
 use Rattle.wasm_spec_instructions.specs.Scopes.{Scope, is_set, types_in, holds_in}
 
 -- operands above the height, whether the code isn't reached, and the locals that were set in the frame
@@ -86,6 +87,11 @@ module _ {R : Type 0} where
   abbrev pub put_non_null : Operand R × Stack R → Option (Stack R)
   put_non_null p = Some (lput (non_null p.0) p.1)
 
+  -- a reference to a descriptor, exactly where what is described was of exactly its type
+  abbrev pub ldescribed_by : R → Option (Stack R) → Option (Stack R) → Option (Stack R)
+  ldescribed_by b (Some q) other = Some (lput (known (reference_at false (exact b))) q)
+  ldescribed_by b None other = option_map (lput (known (reference_at false (concrete b)))) other
+
   abbrev pub given_back : Operand R → List (Val R) → Stack R → Option (Stack R)
   given_back x vs t = Some (lput (non_null x) (lpush vs t))
 
@@ -99,6 +105,9 @@ module _ {R : Type 0} (W : World R) where
   abbrev pub lpops : List (Val R) → Stack R → Option (Stack R)
   lpops [] p = Some p
   lpops (v ∷ vs) p = lpops vs p >>= lpop_val v
+
+  abbrev pub ldescribed : R → R → Stack R → Option (Stack R)
+  ldescribed a b p = ldescribed_by b (lpops (reference_at true (exact a) ∷ []) p) (lpops (reference_at true (concrete a) ∷ []) p)
 
   abbrev pub lfit : List (List (Val R)) → Stack R → ℕ → List ℕ → Bool
   lfit labels p k [] = true
@@ -123,6 +132,9 @@ module _ {R : Type 0} (W : World R) (B : Surroundings R) where
 
   abbrev pub converting_to : AbstractHeap → AbstractHeap → Operand R × Stack R → Option (Stack R)
   converting_to j k p = guard (is_below_either W B j p.0) (lput (converted W B k p.0) p.1)
+
+  abbrev pub described_of : ℕ → Stack R → R → Option (Stack R)
+  described_of n p a = descriptor_at W B n >>= λ b. ldescribed W a b p
 
   abbrev pub null_for : Operand R × Stack R → List (Val R) → Option (Stack R)
   null_for p vs = lpops W vs p.1 >>= given_back p.0 vs
@@ -164,6 +176,7 @@ module _ {R : Type 0} (W : World R) (B : Surroundings R) where
   lact C take_comparable p = lpop_reference p >>= compare_of
   lact C make_non_null p = lpop_reference p >>= put_non_null
   lact C (convert j k) p = lpop_reference p >>= converting_to j k
+  lact C (describe n) p = slice_get B.context.types n >>= described_of n p
   lact C choose p = lpop p >>= choose_of
   lact C stop p = Some (stopped p)
   lact C (set n) p = Some (record p { sets = lgrown n C.sets p.sets })

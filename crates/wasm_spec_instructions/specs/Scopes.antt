@@ -1,7 +1,7 @@
 -- What code is typed in beside the module and the locals: the part of a context that blocks and instructions change.
 -- Core Specification 3.0, Validation, Conventions (Contexts: labels, return, and the locals that are set); and the legacy exception-handling
 -- proposal (labels of handlers).
-use Rattle.std.specs.Prelude.{◌≡◌, ℕ, Bool, true, false, ◌||◌, List, [], ◌∷◌, ◌++◌, Option, Some, slice_get}
+use Rattle.std.specs.Prelude.{◌≡◌, ℕ, Bool, true, false, ◌||◌, List, [], ◌∷◌, ◌++◌, length, Option, Some, slice_get}
 use Rattle.std.specs.Option.{option_map}
 use Rattle.wasm_operator_steps.specs.WasmSpecRules.WasmSpec.Syntax.{Val}
 use Rattle.wasm_operator_steps.specs.WasmSpecRules.WasmSpec.MatchingTests.{World}
@@ -9,8 +9,9 @@ use Rattle.wasm_operator_steps.specs.WasmSpecRules.Attempts.{◌>>=◌, passes, 
 use Rattle.wasm_operator_steps.specs.Matching.{matches_vals, match_some}
 use Rattle.wasm_operator_steps.specs.Bodies.{Surroundings}
 use Rattle.wasm_operator_steps.specs.Machine.{State}
-use Rattle.wasm_operator_steps.specs.Actions.{OperandTypes, label, returned, repeated, front, last, joined, Check, local_is_set, each_matches, each_matches_some}
-use Rattle.wasm_operator_steps.specs.Meanings.{copies, one, types_at, holds}
+use Rattle.wasm_operator_steps.specs.Actions as actions
+use Rattle.wasm_operator_steps.specs.Actions.{OperandTypes, label, returned, repeated, front, last, taken_by, given_by, joined, before, Check, local_is_set, each_matches, each_matches_some}
+use Rattle.wasm_operator_steps.specs.Meanings.{copies, one, all_but, last_ones, continued_signature, types_at, holds}
 
 -- the types at the labels, the innermost first; which of the labels are of handlers, where an exception is caught; the results of the
 -- function; and the locals that were set
@@ -51,6 +52,16 @@ module _ {R : Type 0} (W : World R) (B : Surroundings R) where
   types_in labels returns (repeated n t) = option_map (copies n) (types_in labels returns t)
   types_in labels returns (front t) = option_map front_of (types_in labels returns t)
   types_in labels returns (last t) = one (types_in labels returns t >>= last_of)
+  types_in labels returns (taken_by t) = option_map (λ g. g.takes) (types_in labels returns t >>= continued_signature W B)
+  types_in labels returns (given_by t) = option_map (λ g. g.gives) (types_in labels returns t >>= continued_signature W B)
+  types_in labels returns (before t u) = do
+    vs ← types_in labels returns t
+    ws ← types_in labels returns u
+    all_but (length ws) vs
+  types_in labels returns (actions.behind t u) = do
+    vs ← types_in labels returns t
+    ws ← types_in labels returns u
+    last_ones (length ws) vs
   types_in labels returns (joined t u) = do
     vs ← types_in labels returns t
     ws ← types_in labels returns u

@@ -412,7 +412,8 @@ module _ (F : Features) where
         (cuts_if (nat_lt b 0x41) (cuts_map _ (cuts_never (λ c. no)))
         (cuts_if (nat_lt b 0x45) (cuts_map _ (cuts_any (constant-cuts b bytes)))
         (cuts_if (nat_lt b 0xd0) (cuts_value bytes _ (numeric_from b))
-        (cuts_map _ (cuts_any (reference-cuts (λ n. n) b bytes)))))))))))))))))
+        (cuts_if (nat_lt b 0xe0) (cuts_map _ (cuts_any (reference-cuts (λ n. n) b bytes)))
+        (cuts_map _ (cuts_never (λ c. no))))))))))))))))))
 
     aggregate-cuts : (n : ℕ) (bytes : List ℕ) → Cuts IsConstantOne more (aggregate_from (λ n. n) n bytes) (aggregate_from (λ n. n) n (bytes ++ more))
     unfolding aggregate_from

@@ -5,7 +5,8 @@ use std::alloc::Allocator;
 use std::rc::Rc;
 use wasm_readers_errors::Refusal;
 use wasm_readers_types::{
-    CoreTypeId, FuncType, GlobalType, HeapType, MemoryType, RefType, SubType, TableType, ValType,
+    CoreTypeId, FuncType, GlobalType, HeapType, MemoryType, RefType, SubType, TableType,
+    UnpackedIndex, ValType,
 };
 
 impl<'a, T: WasmModuleResources> WasmModuleResources for &'a T {
@@ -39,8 +40,8 @@ impl<'a, T: WasmModuleResources> WasmModuleResources for &'a T {
     }
 
     #[inline]
-    fn sub_type_of_id(&self, id: CoreTypeId) -> Option<&SubType<Self::A>> {
-        (**self).sub_type_of_id(id)
+    fn sub_type_of(&self, identity: UnpackedIndex) -> Option<&SubType<Self::A>> {
+        (**self).sub_type_of(identity)
     }
 
     #[inline]
@@ -135,8 +136,8 @@ impl<T: WasmModuleResources, S: Allocator> WasmModuleResources for Rc<T, S> {
     }
 
     #[inline]
-    fn sub_type_of_id(&self, id: CoreTypeId) -> Option<&SubType<Self::A>> {
-        (**self).sub_type_of_id(id)
+    fn sub_type_of(&self, identity: UnpackedIndex) -> Option<&SubType<Self::A>> {
+        (**self).sub_type_of(identity)
     }
 
     #[inline]

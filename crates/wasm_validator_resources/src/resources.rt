@@ -18,7 +18,8 @@ use crate::check_value_type;
 use std::alloc::Allocator;
 use wasm_readers_errors::{Refusal, WasmFeatures};
 use wasm_readers_types::{
-    CoreTypeId, FuncType, GlobalType, HeapType, MemoryType, RefType, SubType, TableType, ValType,
+    CoreTypeId, FuncType, GlobalType, HeapType, MemoryType, RefType, SubType, TableType,
+    UnpackedIndex, ValType,
 };
 
 /// What operators look up of a module. Every answer is read from one context, and its types are
@@ -50,9 +51,10 @@ pub trait WasmModuleResources {
     fn sub_type_at(&self, type_index: u32) -> Option<&SubType<Self::A>>
         ensures { option_map (λ t. sub_of t.now) result ≡ sub_in (context self.now) type_index };
 
-    /// The type of an id, if it is known.
-    fn sub_type_of_id(&self, id: CoreTypeId) -> Option<&SubType<Self::A>>
-        ensures { option_map (λ t. sub_of t.now) result ≡ sub_of_id (context self.now) id };
+    /// The type of an identity, if it is known. What is no id has none.
+    fn sub_type_of(&self, identity: UnpackedIndex) -> Option<&SubType<Self::A>>
+        ensures { option_map (λ t. sub_of t.now) result
+            ≡ (world (context self.now)).declared identity };
 
     /// The type of an id that is known.
     fn sub_type_at_id(&self, id: CoreTypeId) -> &SubType<Self::A>
