@@ -4,6 +4,7 @@ use Rattle.std.specs.Prelude.{nat_lt, if◌then◌else◌}
 use Rattle.std.specs.declared.result.Result.{Result}
 use Rattle.std.specs.Bool.{Decides}
 use Rattle.std.specs.Option.{option_map, option_or}
+use Rattle.std.specs.Result.{IsErrAnd}
 use Rattle.std.proofs.lemmas.List.{length-map}
 use Rattle.wasm_spec.specs.Syntax.{Heap, abstract_heap, concrete, exact, map_heap, Val, i32, i64, f32, f64, v128, reference, map_val, Storage, i8, i16, unpacked, map_storage, Field, map_field, Comp, func, array, struct, cont, map_comp, Sub, map_sub}
 use Rattle.wasm_spec.specs.GroupRules.{IsFunction, IsValidType}
@@ -54,6 +55,11 @@ stopped {A} {B} (Err r) t f e a = subst (FirstOf A B) (sym e) (first r a)
 pub went : {A B : Option Refusal → Type 0} {X : Type 0} (x : Result X Refusal) (t : Option Refusal) → is_ok x ≡ true → A (refused x) → B t → FirstOf A B t
 went (Ok u) t f a b = second t a b
 went (Err r) t f a b = absurd (true≢false (sym f))
+
+-- what a `?` hands on is the refusal that it got
+pub handed_on : {X Y : Type 0} (x : Result X Refusal) (y : Result Y Refusal) (r : Refusal) → x ≡ Err r → IsErrAnd y (λ q. q ≡ r) → refused y ≡ refused x
+handed_on x (Ok v) r e h = absurd h
+handed_on x (Err q) r e h = ap Some h ∙ sym (ap refused e)
 
 -- the same of refusals that are known
 pub or_stopped : {X : Type 0} (x : Result X Refusal) (u v : Option Refusal) → is_ok x ≡ false → refused x ≡ u → refused x ≡ option_or u v

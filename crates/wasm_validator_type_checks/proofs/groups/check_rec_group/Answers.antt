@@ -4,9 +4,8 @@ use Rattle.wasm_readers_types.specs.WasmReadersValues.declared.indices.CoreTypeI
 use Rattle.wasm_validator_type_list.specs.WasmValidatorTypeGroups.Groups.{first_of, IsInGroup}
 use Rattle.wasm_validator_type_list.specs.Listing.{types_in}
 use Rattle.wasm_validator_type_list.proofs.DefTypes.{first_of-within}
-use Rattle.std.proofs.lemmas.Grind.{common_steps}
 use Rattle.wasm_validator_resources.specs.WasmReadersErrors.Refusals.{refused}
-use Rattle.wasm_validator_type_checks.proofs.Told.{group_tells}
+use Rattle.wasm_validator_type_checks.proofs.Told.{handed_on, group_tells}
 use Rattle.wasm_validator_type_checks.proofs.ToldAt.{group_told_at}
 use Rattle.wasm_validator_type_checks.proofs.groups.check_rec_group.Goals as goal
 
@@ -29,7 +28,7 @@ returns-in_err-check_type-clause-told g c =
     let k = c.args.group.index in
     let start : c.index-ids.result.now.start.index ≡ first_of gs k = ap (λ (ids : Range CoreTypeId). ids.start.index) c.index-ids.ensures in
     let end : c.index-ids.result.now.end.index ≡ first_of gs (k + 1) = ap (λ (ids : Range CoreTypeId). ids.end.index) c.index-ids.ensures in
-    let e : refused c.from_residual.result ≡ refused c.check_type.result = grind (arith, common_steps) in
+    let e : refused c.from_residual.result ≡ refused c.check_type.result = handed_on _ _ _ c.in_err-check_type.was c.from_residual.ensures.1 in
     let inside : IsInGroup gs k c.from_index-id.result.index = record {
       there = c.requires;
       from = omega (arith, start, c.from_index-id.ensures);

@@ -1,13 +1,12 @@
-use Rattle.std.proofs.Common.{◌≡◌, ap, is_ok, arith}
-use Rattle.std.proofs.lemmas.Grind.{common_steps}
+use Rattle.std.proofs.Common.{◌≡◌, ap, is_ok}
 use Rattle.wasm_validator_resources.specs.WasmReadersErrors.Refusals.{refused}
-use Rattle.wasm_validator_type_checks.proofs.Told.{stopped, went}
+use Rattle.wasm_validator_type_checks.proofs.Told.{handed_on, stopped, went}
 use Rattle.wasm_validator_type_checks.proofs.groups.check_type.Goals as goal
 
 pub returns-in_err-check_subtype-clause-told : goal.returns-in_err-check_subtype-clause-told
 returns-in_err-check_subtype-clause-told g c =
     let t = refused c.from_residual.result in
-    let e : refused c.from_residual.result ≡ refused c.check_subtype.result = grind (arith, common_steps) in
+    let e : refused c.from_residual.result ≡ refused c.check_subtype.result = handed_on _ _ _ c.in_err-check_subtype.was c.from_residual.ensures.1 in
     stopped c.check_subtype.result t (ap is_ok c.in_err-check_subtype.was) e c.check_subtype.ensures.told
 
 pub returns-clause-told : goal.returns-clause-told

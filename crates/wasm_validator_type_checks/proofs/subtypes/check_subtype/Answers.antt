@@ -12,7 +12,7 @@ use Rattle.wasm_validator_type_checks.proofs.Listed.{supertypes_declare}
 use Rattle.wasm_validator_type_checks.proofs.Rules.{declares_rule, rule_declared, extending_kept, type_rules, extends_from, shallow_from}
 use Rattle.wasm_validator_type_checks.proofs.Decided.{misses}
 use Rattle.wasm_validator_resources.specs.WasmReadersErrors.Refusals.{refused}
-use Rattle.wasm_validator_type_checks.proofs.Told.{tells, stopped, went, declared_tells, extending_told}
+use Rattle.wasm_validator_type_checks.proofs.Told.{tells, handed_on, stopped, went, declared_tells, extending_told}
 use Rattle.wasm_validator_type_checks.proofs.subtypes.check_subtype.Goals as goal
 
 pub returns-in_err-check_supertype-clause-decided : goal.returns-in_err-check_supertype-clause-decided
@@ -65,7 +65,7 @@ returns-in_err-check_composite_type-clause-told g c =
     let s = says c.args.types.now.groups k ty in
     let d = (c.group_of-group.ensures.listed ty c.index.ensures).declared in
     let t = refused c.from_residual-in_err-check_composite_type.result in
-    let e : refused c.from_residual-in_err-check_composite_type.result ≡ refused c.check_composite_type.result = grind (arith, common_steps) in
+    let e : refused c.from_residual-in_err-check_composite_type.result ≡ refused c.check_composite_type.result = handed_on _ _ _ c.in_err-check_composite_type.was c.from_residual-in_err-check_composite_type.ensures.1 in
     went c.check_extending.result t (ap is_ok c.in_ok-check_extending.was) (declared_tells _ (D a) s (refused c.check_extending.result) d (c.check_extending.ensures.told ∙ sym (extending_told c.args.features c.args.offset (leads_in c.args.types.now.groups k) (sub_of ty))))
     (stopped c.check_composite_type.result t (ap is_ok c.in_err-check_composite_type.was) e c.check_composite_type.ensures.told)
 
