@@ -23,7 +23,7 @@ use Rattle.wasm_operators_plain.specs.declared.signatures.NumberType.{NumberType
 use Rattle.wasm_operators_plain.specs.declared.signatures.NumberType.TheVariants as number
 use Rattle.wasm_operators_plain.specs.declared.signatures.Signature.{Signature}
 use Rattle.wasm_operators.specs.Control.{Block, block_at, parametric_from, drop_, select, control_from, block, loop, if_, end_, br, br_if, return_, nop, unreachable}
-use Rattle.wasm_operators.specs.References.{reference_from}
+use Rattle.wasm_operators.specs.Continuations.{continuation_from}
 use Rattle.wasm_operators.specs.Instructions.{Instruction, instruction_at, plain_from, variable, constant, numeric, parametric, control, call, access}
 use Rattle.wasm_operators.specs.Maps.{map_block, map_instruction}
 use Rattle.wasm_operator_control.specs.WasmOperatorChecks.WasmOperatorSteps.Actions.{allows}
@@ -55,7 +55,7 @@ differ b m h = grind (arith, nat_tests)
 
 -- no prefix is an opcode
 no_plain : (b : ℕ) (bytes : List ℕ) → 0xfb ≤ b → plain_from written b bytes ≡ None
-unfolding plain_from reference_from
+unfolding plain_from continuation_from
 no_plain b bytes h =
     rw (
       not_below b 0x06 (omega arith),
@@ -73,13 +73,14 @@ no_plain b bytes h =
       not_below b 0x41 (omega arith),
       not_below b 0x45 (omega arith),
       not_below b 0xd0 (omega arith),
-      differ b 0xd0 (omega arith),
-      differ b 0xd1 (omega arith),
-      differ b 0xd2 (omega arith),
-      differ b 0xd3 (omega arith),
-      differ b 0xd4 (omega arith),
-      differ b 0xd5 (omega arith),
-      differ b 0xd6 (omega arith),
+      not_below b 0xe0 (omega arith),
+      differ b 0xe0 (omega arith),
+      differ b 0xe1 (omega arith),
+      differ b 0xe2 (omega arith),
+      differ b 0xe3 (omega arith),
+      differ b 0xe4 (omega arith),
+      differ b 0xe5 (omega arith),
+      differ b 0xe6 (omega arith),
     ) refl
 
 is_plain : (b : ℕ) (bytes : List ℕ) (i : Instruction UnpackedIndex × List ℕ) (t : Bool) → nat_lt b 0xfb ≡ t → plain_from written b bytes ≡ Some i → nat_lt b 0xfb ≡ true
