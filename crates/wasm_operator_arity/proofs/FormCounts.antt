@@ -1,5 +1,5 @@
 -- How many operands operators on vectors, and atomic ones, take and give.
-use Rattle.std.proofs.Common.{◌≡◌, refl, ℕ, ◌+◌, sym, ap, ◌∙◌, List, [], ◌∷◌, length}
+use Rattle.std.proofs.Common.{◌≡◌, refl, ℕ, sym, ap, ◌∙◌, List, [], ◌∷◌, ◌++◌}
 use Rattle.std.specs.Prelude.{Option, Some, None}
 use Rattle.wasm_operators.specs.WasmOperatorsPlain.declared.memories.MemArg.{MemArg}
 use Rattle.wasm_operators.specs.WasmOperatorsAtomic.WasmOperatorsVector.declared.forms.Form.{Form}
@@ -12,9 +12,9 @@ use Rattle.wasm_operators.specs.WasmOperatorsProposals.declared.accesses.AccessV
 use Rattle.wasm_operator_steps.specs.WasmSpecRules.WasmSpec.Syntax.{i32}
 use Rattle.wasm_operator_steps.specs.Actions.{Check, OperandTypes, these, global, table_address, table_element, field, element}
 use Rattle.wasm_operator_steps.specs.Forms.{memarg_of, addresses_in, counts_in}
-use Rattle.wasm_operator_steps.specs.Shapes.{plain, nothing, one, nullable_to, address_of, form_shape, access_taken, access_given, sharing_shape}
+use Rattle.wasm_operator_steps.specs.Shapes.{plain, nothing, one, nullable_to, address_of, form_shape, access_taken, access_given, shared_checks, sharing_shape}
 use Rattle.wasm_operator_arity.specs.AccessCounts.{counts_above, counts_of_access}
-use Rattle.wasm_operator_arity.specs.Arities.{plus, pair, how_many, arity}
+use Rattle.wasm_operator_arity.specs.Arities.{how_many, arity}
 use Rattle.wasm_operator_arity.specs.Asked.{Asked}
 
 address_counted : (M : Asked) (o : Option MemArg) → how_many M (address_of o) ≡ Some (addresses_in o)
@@ -35,11 +35,11 @@ access_counted M cs access.Compare p v n h k = rw (h, k) refl
 
 counts_told : (M : Asked) (cs : List Check) (f : SharedForm) (v : AccessValues) → arity M (sharing_shape cs f v) ≡ Some (counts_of_access f)
 counts_told M cs form.Pause v = refl
-counts_told M cs (form.Global a) v = access_counted M _ a nothing (global v.index) 0 refl refl
-counts_told M cs (form.Table a) v = access_counted M _ a (table_address v.index) (table_element v.index) 1 refl refl
-counts_told M cs (form.Field a) v = access_counted M _ a (one (nullable_to v.index)) (field v.index v.field_index) 1 refl refl
+counts_told M cs (form.Global a) v = access_counted M (cs ++ shared_checks (form.Global a) v) a nothing (global v.index) 0 refl refl
+counts_told M cs (form.Table a) v = access_counted M (cs ++ shared_checks (form.Table a) v) a (table_address v.index) (table_element v.index) 1 refl refl
+counts_told M cs (form.Field a) v = access_counted M (cs ++ shared_checks (form.Field a) v) a (one (nullable_to v.index)) (field v.index v.field_index) 1 refl refl
 counts_told M cs form.PackedField v = refl
-counts_told M cs (form.Element a) v = access_counted M _ a (these (nullable_to v.index ∷ i32 ∷ [])) (element v.index) 2 refl refl
+counts_told M cs (form.Element a) v = access_counted M (cs ++ shared_checks (form.Element a) v) a (these (nullable_to v.index ∷ i32 ∷ [])) (element v.index) 2 refl refl
 counts_told M cs form.PackedElement v = refl
 
 pub shared_counted : (M : Asked) (cs : List Check) (f : SharedForm) (v : AccessValues) (r : ℕ × ℕ) → r ≡ counts_of_access f → Some r ≡ arity M (sharing_shape cs f v)

@@ -1,6 +1,6 @@
 -- How many operands instructions take and give: as many as there are types in what their shapes take and give.
 -- Core Specification 3.0, Validation, Instructions.
-use Rattle.std.specs.Prelude.{ℕ, ◌+◌, ◌-◌, ◌*◌, ◌^◌, ◌&&◌, ◌==◌, nat_lt, if◌then◌else◌, List, [], ◌∷◌, length, slice_get, Option, Some, None}
+use Rattle.std.specs.Prelude.{ℕ, ◌+◌, ◌-◌, ◌*◌, ◌^◌, ◌&&◌, ◌==◌, nat_lt, if◌then◌else◌, [], ◌∷◌, length, slice_get, Option, Some, None}
 use Rattle.std.specs.Option.{option_map, option_and_then}
 use Rattle.wasm_operator_steps.specs.WasmSpecRules.WasmSpec.Syntax.{Heap, abstract_heap, concrete, exact, Val, reference, Sub, Comp, func, struct}
 use Rattle.wasm_readers_types.specs.WasmReadersValues.declared.indices.UnpackedIndex.{UnpackedIndex}

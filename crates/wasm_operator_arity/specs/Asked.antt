@@ -1,5 +1,5 @@
 -- What is asked of a module, and of the frames of a body, to tell how many operands an instruction takes and gives.
-use Rattle.std.specs.Prelude.{ℕ, List, Option, Some, None, IsSome, ⊤}
+use Rattle.std.specs.Prelude.{ℕ, List, Option, Some, None}
 use Rattle.wasm_operator_steps.specs.WasmSpecRules.WasmSpec.Syntax.{Comp, func, Sub}
 use Rattle.wasm_readers_types.specs.WasmReadersValues.declared.indices.UnpackedIndex.{UnpackedIndex}
 use Rattle.wasm_readers_types.specs.WasmReadersValues.declared.indices.UnpackedIndex.TheVariants.{Module, RecGroup, Id}
@@ -33,16 +33,6 @@ abbrev pub type_of_id : Asked → UnpackedIndex → Option (Sub UnpackedIndex)
 type_of_id M (Module n) = None
 type_of_id M (RecGroup n) = None
 type_of_id M (Id id) = M.ids id.index
-
--- Where the index is an id, its type is known.
-abbrev pub IsKnown : Asked → UnpackedIndex → Type 0
-IsKnown M (Module n) = ⊤
-IsKnown M (RecGroup n) = ⊤
-IsKnown M (Id id) = IsSome (M.ids id.index)
-
-abbrev pub IsKnownIn : Asked → Option UnpackedIndex → Type 0
-IsKnownIn M None = ⊤
-IsKnownIn M (Some i) = IsKnown M i
 
 -- a composite type, where it is a function type
 abbrev pub func_alone : {R : Type 0} → Comp R → Option (Comp R)

@@ -1,13 +1,13 @@
 -- Counts against the types that validation looks up: a list that is there has as many types as are counted.
-use Rattle.std.specs.Prelude.{◌≡◌, ℕ, List, length, map, Some, slice_get}
+use Rattle.std.specs.Prelude.{◌≡◌, ℕ, List, [], ◌∷◌, length, map, Some, None, slice_get, ⊤}
 use Rattle.std.specs.Option.{option_map}
-use Rattle.wasm_operator_steps.specs.WasmSpecRules.WasmSpec.Syntax.{Val}
+use Rattle.wasm_operator_steps.specs.WasmSpecRules.WasmSpec.Syntax.{Ref, Val, reference}
 use Rattle.wasm_operator_steps.specs.WasmSpecRules.WasmSpec.MatchingTests.{World}
 use Rattle.wasm_readers_types.specs.WasmReadersValues.declared.indices.UnpackedIndex.{UnpackedIndex}
-use Rattle.wasm_readers_types.specs.WasmReadersValues.declared.indices.UnpackedIndex.TheVariants.{Id}
+use Rattle.wasm_readers_types.specs.WasmReadersValues.declared.indices.UnpackedIndex.TheVariants.{Module, RecGroup, Id}
 use Rattle.wasm_operator_steps.specs.Bodies.{Surroundings}
 use Rattle.wasm_operator_steps.specs.Machine.{Frame, State}
-use Rattle.wasm_operator_steps.specs.Actions.{of_tag, OperandTypes}
+use Rattle.wasm_operator_steps.specs.Actions.{of_tag, OperandTypes, these, repeated, front, last, taken_by, given_by, joined, before, behind}
 use Rattle.wasm_operator_steps.specs.WasmSpecRules.Signatures.{Signature}
 use Rattle.wasm_operator_steps.specs.Meanings.{sub_at, signature_at, types_at}
 use Rattle.wasm_operator_arity.specs.Arities.{how_many}
@@ -27,7 +27,30 @@ asked_of W B s = record {
   frames = map (λ (x : Frame UnpackedIndex). (x.block, x.kind)) s.frames;
 }
 
+-- no type is declared but by an id
+pub record DeclaresIds (W : World UnpackedIndex) : Type 0 where
+  pub of_module : (n : ℕ) → W.declared (Module n) ≡ None
+  pub of_group : (n : ℕ) → W.declared (RecGroup n) ≡ None
+
+-- the continuation is told that the last of these types refers to: by a reference that is written, or as the last that another takes
+pub data TellsLast : OperandTypes → Type 0 where
+  by_reference : (r : Ref ℕ) → TellsLast (these (reference r ∷ []))
+  by_continuation : (t : OperandTypes) → TellsLast t → TellsLast (taken_by t)
+
+-- So many types of a list are counted, where its types are there: all but those of continuations that aren't told so, or where other
+-- indices than ids declare types.
+abbrev pub IsCounted : World UnpackedIndex → OperandTypes → Type 0
+IsCounted W (repeated n t) = IsCounted W t
+IsCounted W (front t) = IsCounted W t
+IsCounted W (last t) = IsCounted W t
+IsCounted W (taken_by t) = TellsLast t × DeclaresIds W
+IsCounted W (given_by t) = TellsLast t × DeclaresIds W
+IsCounted W (before t u) = IsCounted W t × IsCounted W u
+IsCounted W (behind t u) = IsCounted W t × IsCounted W u
+IsCounted W (joined t u) = IsCounted W t × IsCounted W u
+IsCounted W _ = ⊤
+
 abbrev pub CountsAreLengths : Type 0
 CountsAreLengths =
     (W : World UnpackedIndex) (B : Surroundings UnpackedIndex) (s : State UnpackedIndex) (t : OperandTypes) (vs : List (Val UnpackedIndex))
-    → types_at W B s t ≡ Some vs → how_many (asked_of W B s) t ≡ Some (length vs)
+    → IsCounted W t → types_at W B s t ≡ Some vs → how_many (asked_of W B s) t ≡ Some (length vs)

@@ -5,7 +5,7 @@ ghost use Rattle.std.specs.Option.{option_map, option_and_then};
 ghost use Rattle.wasm_readers_types.specs.SeenTypes.{sub_of, func_of};
 ghost use Rattle.wasm_readers_types.specs.WasmReadersValues.SeenValues.{index_of, ref_of, index_in};
 ghost use Rattle.wasm_operators.specs.SeenControl.{block_of};
-ghost use Rattle.wasm_operator_arity.specs.Asked.{Asked, kind_of, type_of_id, IsKnown, IsKnownIn, func_alone};
+ghost use Rattle.wasm_operator_arity.specs.Asked.{Asked, kind_of, type_of_id, func_alone};
 
 use std::alloc::Allocator;
 use wasm_operators::{BlockType, FrameKind};
@@ -32,18 +32,16 @@ pub trait ModuleArity {
     fn type_index_of_function(&self, function_index: u32) -> Option<u32>
         ensures { result ≡ (asked self.now).functions function_index };
 
-    /// The function type of a continuation type that has an id: none where it has another index, or
-    /// where the id's type isn't a function type. An id is known.
+    /// The function type of a continuation type that has an id: none where it has another index,
+    /// where the id isn't known, or where its type isn't a function type.
     fn func_type_of_cont_type(&self, cont_type: &ContType) -> Option<&FuncType<Self::A>>
-        requires { IsKnown (asked self.now) (index_of cont_type.now.0) }
         ensures { option_map (λ f. func_of f.now) result
             ≡ option_and_then (λ d. func_alone d.comp)
             (type_of_id (asked self.now) (index_of cont_type.now.0)) };
 
-    /// The type that a reference type names by its id: none where it is abstract or has another
-    /// index. An id is known.
+    /// The type that a reference type names by its id: none where it is abstract, where it has another
+    /// index, or where the id isn't known.
     fn sub_type_of_ref_type(&self, ref_type: &RefType) -> Option<&SubType<Self::A>>
-        requires { IsKnownIn (asked self.now) (index_in (ref_of ref_type.now).heap) }
         ensures { option_map (λ t. sub_of t.now) result
             ≡ option_and_then (type_of_id (asked self.now)) (index_in (ref_of ref_type.now).heap) };
 

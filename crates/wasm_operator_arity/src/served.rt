@@ -66,7 +66,7 @@ fn is_prefixed_off(features: WasmFeatures, prefix: u8, code: u32) -> bool {
 #[cold]
 #[inline(never)]
 fn refusal_of(front: BinaryReader<'_>, features: WasmFeatures, refusal: Refusal) -> Refusal
-    ensures { RefusedAround front refusal result }
+    ensures { RefusedAround front.entry refusal result }
 {
     let offset = front.original_position();
     let mut reader = front;

@@ -1,5 +1,5 @@
 -- What `ref.get_desc` takes and gives, within one frame.
-use Rattle.std.proofs.Common.{◌≡◌, refl, sym, ap, ◌∙◌, Bool, true, false, List, [], ◌∷◌, Option, Some, None}
+use Rattle.std.proofs.Common.{◌≡◌, refl, sym, ap, ◌∙◌, Bool, true, false, [], ◌∷◌, Option, Some, None}
 use Rattle.wasm_operator_steps.specs.WasmSpecRules.WasmSpec.Syntax.{Heap, concrete, exact, Val}
 use Rattle.wasm_operator_steps.specs.WasmSpecRules.WasmSpec.MatchingTests.{World}
 use Rattle.wasm_operator_steps.specs.Machine.{known, matches_operand}

@@ -1,5 +1,5 @@
 -- The rules of shapes, read for instructions whose types the context fixes.
-use Rattle.std.proofs.Common.{◌≡◌, refl, sym, ap, ◌∙◌, ℕ, Bool, true, false, ◌==◌, List, [], ◌∷◌, ◌++◌, length, Option, map, Some, None, option_map, slice_get}
+use Rattle.std.proofs.Common.{◌≡◌, refl, sym, ap, ◌∙◌, ℕ, Bool, true, false, ◌==◌, List, [], ◌∷◌, ◌++◌, length, Option, map, Some, option_map, slice_get}
 use Rattle.std.proofs.lemmas.Bool.Decides.{Decides-eqb}
 use Rattle.wasm_operator_steps.specs.WasmSpecRules.WasmSpec.Syntax.{exn_heap, abstract_heap, concrete, Heap, Ref, Val, Field, Global, Table, Memory, i32, i64, reference}
 use Rattle.wasm_operator_steps.specs.WasmSpecRules.WasmSpec.MatchingTests.{World}
@@ -17,36 +17,11 @@ use Rattle.wasm_spec_instructions.specs.ValueTypes.{ValueType, val, vals, refere
 use Rattle.wasm_spec_instructions.specs.Scopes.{Scope}
 use Rattle.wasm_spec_instructions.specs.Rules.{Rule, plain_rule, ending_rule}
 use Rattle.wasm_spec_instructions.specs.Fixed.{DoesNothing, Calls, Throws, ThrowsAgain, GetsGlobal, SetsGlobal, GetsElement, RefersTo, CallsReference, CastsTo, CastsByDescriptor, Loads, MakesStructure, GetsField, GetsItem, AddsWide, MultipliesWide, FixedTypesHaveTheirRules}
-use Rattle.wasm_spec_instructions.proofs.Attempts.{the_same, absent, bind-gives, bind-at}
+use Rattle.wasm_spec_instructions.proofs.Attempts.{the_same, bind-gives, bind-at}
 use Rattle.wasm_spec_instructions.proofs.Fits.{vals-append}
 use Rattle.wasm_spec_instructions.proofs.Names.{as_written}
-
--- what an attempt has found
-mapped : {A X : Type 0} (f : A → X) (o : Option A) (x : X) → option_map f o ≡ Some x → (a : A) × (o ≡ Some a) × (x ≡ f a)
-mapped f None x e = absurd (absent x e)
-mapped f (Some a) x e = (a, refl, sym (the_same (f a) x e))
-
-single : {A R : Type 0} (f : A → Val R) (o : Option A) (us : List (Val R)) → meaning.one (option_map f o) ≡ Some us → (a : A) × (o ≡ Some a) × (us ≡ f a ∷ [])
-single f None us e = absurd (absent us e)
-single f (Some a) us e = (a, refl, sym (the_same (f a ∷ []) us e))
-
--- a reference type, or null, to a type of the context, and types behind it
-null_and : {R : Type 0} → List (Val R) → Option R → Option (List (Val R))
-null_and rs o = option_map reference (option_map (λ h. record { nullable = true; heap = h }) (option_map concrete o)) >>= λ w. Some (w ∷ rs)
-
-null_to : {R : Type 0} (rs : List (Val R)) (o : Option R) (vs : List (Val R)) → null_and rs o ≡ Some vs → (a : R) × (o ≡ Some a) × (vs ≡ reference_at true (concrete a) ∷ rs)
-unfolding null_and
-null_to rs None vs e = absurd (absent vs e)
-null_to rs (Some a) vs e = (a, refl, sym (the_same (reference_at true (concrete a) ∷ rs) vs e))
-
-by_null_to : {R : Type 0} (rs : List (Val R)) (o : Option R) (a : R) → o ≡ Some a → null_and rs o ≡ Some (reference_at true (concrete a) ∷ rs)
-unfolding null_and
-by_null_to rs o a e = ap (null_and rs) e
-
--- a written type of the context
-found_one : {A R : Type 0} (f : A → Val R) (o : Option A) (vs : List (Val R)) → (option_map f o >>= λ w. Some (w ∷ [])) ≡ Some vs → (a : A) × (o ≡ Some a) × (vs ≡ f a ∷ [])
-found_one f None vs e = absurd (absent vs e)
-found_one f (Some a) vs e = (a, refl, sym (the_same (f a ∷ []) vs e))
+use Rattle.wasm_spec_instructions.proofs.Found.{mapped, single, null_and, null_to, by_null_to, found_one}
+use Rattle.wasm_spec_instructions.proofs.Continued.{makes_continuation, by_making_continuation, suspends, by_suspending, resumes, by_resuming, resumes_by_exception, by_resuming_by_exception}
 
 module _ {R : Type 0} (W : World R) (B : Surroundings R) (C : Scope R) where
   rests : (ts us : List (ValueType R)) → Rule W B C (plain [] nothing nothing) ts us → DoesNothing W B ts us
@@ -174,7 +149,6 @@ module _ {R : Type 0} (W : World R) (B : Surroundings R) (C : Scope R) where
   called_by x = plain (has function_references ∷ reaches_type x ∷ []) (joined (params (of_type x)) (one (nullable_to x))) (results (of_type x))
 
   calls_reference : (x : ℕ) (ts us : List (ValueType R)) → Rule W B C (called_by x) ts us → CallsReference W B x ts us
-  unfolding null_and
   calls_reference x ts us (plain_rule {ts = taken} {us = given} h e f) =
       let k = mapped (λ (g : Signature R). g.gives) (signature_at W B (of_type x)) given f in
       let m = bind-gives (option_map (λ (g : Signature R). g.takes) (signature_at W B (of_type x))) (λ vs. null_and [] (slice_get B.context.types x) >>= λ ws. Some (vs ++ ws)) taken e in
@@ -195,7 +169,6 @@ module _ {R : Type 0} (W : World R) (B : Surroundings R) (C : Scope R) where
       }
 
   by_calling_reference : (x : ℕ) (ts us : List (ValueType R)) → CallsReference W B x ts us → Rule W B C (called_by x) ts us
-  unfolding null_and
   by_calling_reference x ts us b =
       as_written W B C (called_by x) ts us (vals (b.callee.takes ++ reference_at true (concrete b.it) ∷ [])) (vals b.callee.gives)
       (b.takes ∙ sym (vals-append b.callee.takes (reference_at true (concrete b.it) ∷ []))) b.gives
@@ -297,28 +270,24 @@ module _ {R : Type 0} (W : World R) (B : Surroundings R) (C : Scope R) where
       (ap (λ (o : Option R). meaning.one (option_map (λ a. ref_to false (exact_if W B true a)) o)) b.is))
 
   gets_field : (x i : ℕ) (ts us : List (ValueType R)) → Rule W B C (getting false x i) ts us → GetsField W B x i ts us
-  unfolding null_and
   gets_field x i ts us (plain_rule {ts = taken} {us = given} h e f) =
       let k = null_to [] (slice_get B.context.types x) taken e in
       let m = single unpack_field (field_at W B x i) given f in
       record { it = k.0; field = m.0; on = h.0; reached = h.1.0; unpacked = h.1.1.0; is = k.1; there = m.1; takes = ap vals k.2; gives = ap vals m.2 }
 
   by_getting_field : (x i : ℕ) (ts us : List (ValueType R)) → GetsField W B x i ts us → Rule W B C (getting false x i) ts us
-  unfolding null_and
   by_getting_field x i ts us b =
       as_written W B C (getting false x i) ts us (val (reference_at true (concrete b.it)) ∷ []) (val (unpack_field b.field) ∷ []) b.takes b.gives
       (plain_rule (b.on, (b.reached, (b.unpacked, tt))) (by_null_to [] (slice_get B.context.types x) b.it b.is)
       (ap (λ (o : Option (Field R)). meaning.one (option_map unpack_field o)) b.there))
 
   gets_item : (x : ℕ) (ts us : List (ValueType R)) → Rule W B C (item false x) ts us → GetsItem W B x ts us
-  unfolding null_and
   gets_item x ts us (plain_rule {ts = taken} {us = given} h e f) =
       let k = null_to (i32 ∷ []) (slice_get B.context.types x) taken e in
       let m = single unpack_field (element_at W B x) given f in
       record { it = k.0; element = m.0; on = h.0; reached = h.1.0; unpacked = h.1.1.0; is = k.1; there = m.1; takes = ap vals k.2; gives = ap vals m.2 }
 
   by_getting_item : (x : ℕ) (ts us : List (ValueType R)) → GetsItem W B x ts us → Rule W B C (item false x) ts us
-  unfolding null_and
   by_getting_item x ts us b =
       as_written W B C (item false x) ts us (val (reference_at true (concrete b.it)) ∷ val i32 ∷ []) (val (unpack_field b.element) ∷ []) b.takes b.gives
       (plain_rule (b.on, (b.reached, (b.unpacked, tt))) (by_null_to (i32 ∷ []) (slice_get B.context.types x) b.it b.is)
@@ -360,5 +329,9 @@ fixed_types_have_their_rules R W B C = record {
   struct_get = λ x i ts us. (gets_field W B C x i ts us, by_getting_field W B C x i ts us);
   array_get = λ x ts us. (gets_item W B C x ts us, by_getting_item W B C x ts us);
   add128 = λ ts us. (adds_wide W B C ts us, by_adding_wide W B C ts us);
+  cont_new = λ x ts us. (makes_continuation W B C x ts us, by_making_continuation W B C x ts us);
+  suspend = λ x ts us. (suspends W B C x ts us, by_suspending W B C x ts us);
+  resume = λ x hs ts us. (resumes W B C x hs ts us, by_resuming W B C x hs ts us);
+  resume_throw_ref = λ x hs ts us. (resumes_by_exception W B C x hs ts us, by_resuming_by_exception W B C x hs ts us);
   mul_wide_s = λ ts us. (multiplies_wide W B C ts us, by_multiplying_wide W B C ts us);
 }

@@ -18,6 +18,8 @@ pub mod Unique
 pub mod Orders
 pub mod Accepted
 pub mod Names
+pub mod Found
+pub mod Continued
 pub mod Fixed
 pub mod Growing
 pub mod Composing

@@ -1,5 +1,5 @@
 -- How the rules of the shapes read for instructions whose types the context fixes: calls, exceptions, globals, tables,
--- functions, casts, loads, structures and arrays.
+-- functions, casts, loads, structures, arrays and continuations.
 -- Core Specification 3.0, Validation, Instructions.
 use Rattle.std.specs.Prelude.{◌≡◌, ◌↔◌, ℕ, true, false, List, [], ◌∷◌, ◌++◌, map, Some, length, slice_get}
 use Rattle.wasm_operator_steps.specs.WasmSpecRules.WasmSpec.Syntax.{exn_heap, abstract_heap, concrete, Heap, Ref, Val, Field, Global, Table, Memory, i32, i64, reference}
@@ -8,6 +8,8 @@ use Rattle.wasm_operator_steps.specs.WasmSpecRules.Attempts.{among}
 use Rattle.wasm_operator_steps.specs.WasmSpecRules.Signatures.{Signature, resolve_ref, resolve_val}
 use Rattle.wasm_operators.specs.Control as control
 use Rattle.wasm_operators.specs.References as references
+use Rattle.wasm_operators.specs.Continuations as continuations
+use Rattle.wasm_operators.specs.WasmOperatorsProposals.declared.continuations.Handle.{Handle}
 use Rattle.wasm_operators.specs.Instructions as instruction
 use Rattle.wasm_operators.specs.WasmOperatorsPlain.declared.calls.CallOperator.TheVariants.{Call, CallRef}
 use Rattle.wasm_operators.specs.WasmOperatorsPlain.declared.variables.VariableOperator.TheVariants.{GlobalGet, GlobalSet}
@@ -25,6 +27,7 @@ use Rattle.wasm_spec_instructions.specs.ValueTypes.{ValueType, val, vals, refere
 use Rattle.wasm_spec_instructions.specs.Scopes.{Scope, nowhere}
 use Rattle.wasm_spec_instructions.specs.Rules.{Rule}
 use Rattle.wasm_spec_instructions.specs.Names.{Goes}
+use Rattle.wasm_spec_instructions.specs.Continued.{MakesContinuation, Suspends, Resumes, ResumesByException}
 
 module _ {R : Type 0} (W : World R) (B : Surroundings R) where
   -- `nop : eps -> eps`
@@ -206,6 +209,10 @@ module _ {R : Type 0} (W : World R) (B : Surroundings R) where
     pub struct_get : (x i : ℕ) (ts us : List (ValueType R)) → Goes W B C (instruction.structure (StructGet x i)) ts us ↔ GetsField x i ts us
     pub array_get : (x : ℕ) (ts us : List (ValueType R)) → Goes W B C (instruction.array (ArrayGet x)) ts us ↔ GetsItem x ts us
     pub add128 : (ts us : List (ValueType R)) → Goes W B C (instruction.wide I64Add128) ts us ↔ AddsWide ts us
+    pub cont_new : (x : ℕ) (ts us : List (ValueType R)) → Goes W B C (instruction.continuation (continuations.cont_new x)) ts us ↔ MakesContinuation W B x ts us
+    pub suspend : (x : ℕ) (ts us : List (ValueType R)) → Goes W B C (instruction.continuation (continuations.suspend x)) ts us ↔ Suspends W B x ts us
+    pub resume : (x : ℕ) (hs : List Handle) (ts us : List (ValueType R)) → Goes W B C (instruction.continuation (continuations.resume x hs)) ts us ↔ Resumes W B C x hs ts us
+    pub resume_throw_ref : (x : ℕ) (hs : List Handle) (ts us : List (ValueType R)) → Goes W B C (instruction.continuation (continuations.resume_throw_ref x hs)) ts us ↔ ResumesByException W B C x hs ts us
     pub mul_wide_s : (ts us : List (ValueType R)) → Goes W B C (instruction.wide I64MulWideS) ts us ↔ MultipliesWide ts us
 
 -- Each of these instructions has the standard's rule.

@@ -5,6 +5,7 @@ pub mod Rules
 pub mod Sequences
 pub mod Expressions
 pub mod Names
+pub mod Continued
 pub mod Fixed
 pub mod Laws
 pub mod Consequences

@@ -1,5 +1,5 @@
 -- The table that is made in one pass is the side table.
-use Rattle.std.proofs.Common.{◌≡◌, refl, sym, ap, subst, ◌∙◌, ℕ, zero, suc, ◌+◌, ◌<◌, ◌≤◌, Bool, true, false, List, [], ◌∷◌, ◌++◌, map, length, Option, Some, None, option_map, slice_get, arith, length-append, append_assoc, append-nil}
+use Rattle.std.proofs.Common.{◌≡◌, refl, sym, ap, subst, ◌∙◌, ℕ, zero, suc, ◌+◌, ◌≤◌, true, false, List, [], ◌∷◌, ◌++◌, map, length, Option, Some, None, option_map, slice_get, arith, length-append, append_assoc, append-nil}
 use Rattle.wasm_operator_steps.specs.WasmSpecRules.WasmSpec.MatchingTests.{World}
 use Rattle.wasm_operator_steps.specs.WasmSpecRules.Attempts.{◌>>=◌}
 use Rattle.wasm_operators.specs.Control as control
@@ -24,10 +24,10 @@ use Rattle.wasm_operator_steps.specs.Steps.{step_in}
 use Rattle.wasm_spec_side_tables.specs.declared.entry.Entry.{Entry}
 use Rattle.wasm_spec_side_tables.specs.declared.entry.Place.{Place}
 use Rattle.wasm_spec_side_tables.specs.declared.entry.OpenBlock.{OpenBlock}
-use Rattle.wasm_spec_side_tables.specs.SideTables.{Placed, Branch, to_label, past_then, catching_to, catch_label, branches, control_branches, legacy_branches, reference_branches, cast_branches, handle_branches, continuation_branches, Nesting, opens_loop, opens, turns, closes, stays, nesting, control_nesting, legacy_nesting, past, place_past, place_behind, place_behind_then, Label, back_to, ahead, labels_behind, place_by, branch_place, counts, entries_at, entries_from, side_table}
+use Rattle.wasm_spec_side_tables.specs.SideTables.{Placed, Branch, to_label, past_then, catching_to, handling_to, catch_label, branches, control_branches, legacy_branches, reference_branches, cast_branches, handle_branches, continuation_branches, Nesting, opens_loop, opens, turns, closes, stays, nesting, control_nesting, legacy_nesting, past, place_past, place_behind, place_behind_then, Label, back_to, ahead, labels_behind, place_by, branch_place, counts, entries_at, entries_from}
 use Rattle.wasm_spec_side_tables.specs.Building.{Nest, Built, opened, nested, number_of, resolved, resolved_each, begun, planned, planned_each, noted, built}
 use Rattle.wasm_spec_side_tables.specs.Laws.{TablesAreRight}
-use Rattle.wasm_spec_side_tables.proofs.Lists.{the_same, absent, bind-gives, bind-at, get-first}
+use Rattle.wasm_spec_side_tables.proofs.Lists.{the_same, absent, bind-gives, bind-at}
 use Rattle.wasm_spec_side_tables.proofs.Nesting.{Stands, Ends, new_block}
 use Rattle.wasm_spec_side_tables.proofs.Linking.{Says, Linked, onward, nests, ends}
 
@@ -40,6 +40,7 @@ For turns (past_then b) = ⊥
 For closes (past_then b) = ⊥
 For stays (past_then b) = ⊥
 For k (catching_to b l) = Unit {0}
+For k (handling_to t l) = Unit {0}
 
 abbrev AreFor : Nesting → List Branch → Type 0
 AreFor k [] = Unit {0}
@@ -276,6 +277,7 @@ module _ {R : Type 0} (W : World R) (B : Surroundings R) where
       reaches M k after here g (to_label d taken) m f h = label_is T.nest.places T.nest.open_blocks ls (place_behind (i ∷ is) n) (place_behind_then (i ∷ is) n) U.nest.places d m here ln h
       reaches M k after here g (past_then b) m f h = then_is k (place_past n i) T.nest M (place_behind is (past n i)) (place_behind_then is (past n i)) U.nest.places b m g f after h
       reaches M k after here g (catching_to b d) m f h = label_is T.nest.places T.nest.open_blocks ls (place_behind (i ∷ is) n) (place_behind_then (i ∷ is) n) U.nest.places d m here ln h
+      reaches M k after here g (handling_to t d) m f h = label_is T.nest.places T.nest.open_blocks ls (place_behind (i ∷ is) n) (place_behind_then (i ∷ is) n) U.nest.places d m here ln h
 
 -- at the start
 none_open : (d : ℕ) (o : OpenBlock) → ◌≡◌ {A = Option OpenBlock} (slice_get [] d) (Some o) → ⊥

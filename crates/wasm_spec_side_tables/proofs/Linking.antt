@@ -1,10 +1,10 @@
 -- Labels and the blocks that are open, and the places in the end behind any instructions.
-use Rattle.std.proofs.Common.{◌≡◌, ◌≢◌, refl, sym, ap, subst, ◌∙◌, ℕ, zero, suc, ◌+◌, ◌<◌, ◌≤◌, Bool, true, false, not, List, [], ◌∷◌, ◌++◌, length, drop, Option, Some, None, slice_get, slice_set, arith}
-use Rattle.wasm_operator_steps.specs.WasmSpecRules.Attempts.{◌>>=◌, guard}
+use Rattle.std.proofs.Common.{◌≡◌, refl, sym, ap, subst, ◌∙◌, ℕ, zero, suc, Bool, true, false, not, List, [], ◌∷◌, ◌++◌, length, drop, Option, Some, slice_get, slice_set, arith}
+use Rattle.wasm_operator_steps.specs.WasmSpecRules.Attempts.{◌>>=◌}
 use Rattle.wasm_spec_side_tables.specs.declared.entry.Place.{Place}
 use Rattle.wasm_spec_side_tables.specs.declared.entry.OpenBlock.{OpenBlock}
-use Rattle.wasm_spec_side_tables.specs.SideTables.{Placed, branches, Nesting, opens_loop, opens, turns, closes, stays, nesting, past, place_past, behind_by, place_behind, behind_then_by, place_behind_then, Label, back_to, ahead, labels_behind}
-use Rattle.wasm_spec_side_tables.specs.Building.{Nest, opened, turned, closed_places, closed, nested}
+use Rattle.wasm_spec_side_tables.specs.SideTables.{Placed, Nesting, opens_loop, opens, turns, closes, stays, nesting, past, place_past, behind_by, place_behind, behind_then_by, place_behind_then, Label, back_to, ahead, labels_behind}
+use Rattle.wasm_spec_side_tables.specs.Building.{Nest, opened, closed_places, nested}
 use Rattle.wasm_spec_side_tables.proofs.Lists.{the_same, absent, no, bind-gives, guard-gives, get-front, get-first, get-set_other}
 use Rattle.wasm_spec_side_tables.proofs.Nesting.{Stands, Ends, new_block, turned_block, ends-opened, stands-opened, closed-other, ends-closed, stands-closed, ends-turned, stands-turned, label-differs, other-differs}
 

@@ -1,11 +1,10 @@
 -- What the places are once all blocks are closed.
-use Rattle.std.proofs.Common.{◌≡◌, ◌≢◌, refl, sym, ap, subst, ◌∙◌, ℕ, zero, suc, ◌+◌, ◌<◌, ◌≤◌, Bool, true, false, not, if◌then◌else◌, List, [], ◌∷◌, ◌++◌, length, Option, Some, None, slice_get, slice_set, arith, length-append, length-set}
-use Rattle.wasm_operator_steps.specs.WasmSpecRules.Attempts.{◌>>=◌, guard}
+use Rattle.std.proofs.Common.{◌≡◌, ◌≢◌, refl, sym, ap, subst, ◌∙◌, ℕ, zero, suc, ◌+◌, ◌<◌, ◌≤◌, Bool, true, false, if◌then◌else◌, List, [], ◌∷◌, ◌++◌, length, Option, Some, slice_get, slice_set, arith, length-append, length-set}
 use Rattle.wasm_spec_side_tables.specs.declared.entry.Place.{Place}
 use Rattle.wasm_spec_side_tables.specs.declared.entry.OpenBlock.{OpenBlock}
-use Rattle.wasm_spec_side_tables.specs.SideTables.{Placed, branches, Nesting, opens_loop, opens, turns, closes, stays, nesting, past, place_past, behind_by, place_behind, behind_then_by, place_behind_then, Label, back_to, ahead, labels_behind}
-use Rattle.wasm_spec_side_tables.specs.Building.{Nest, opened, turned, closed_places, closed, nested}
-use Rattle.wasm_spec_side_tables.proofs.Lists.{the_same, absent, no, bind-gives, guard-gives, get-front, get-first, get-within, get-set_same, get-set_other, get-set_again}
+use Rattle.wasm_spec_side_tables.specs.SideTables.{turns, closes, behind_by, behind_then_by}
+use Rattle.wasm_spec_side_tables.specs.Building.{closed_places}
+use Rattle.wasm_spec_side_tables.proofs.Lists.{the_same, no, get-front, get-set_same, get-set_other, get-set_again}
 
 -- Each number is that of a place, and below those of all blocks inside.
 pub record Stands (m : ℕ) (os : List OpenBlock) : Type 0 where

@@ -1,6 +1,6 @@
 -- The side table of a body, for interpreters that run it in place: for each branch, in the order of the instructions, where it goes, how
 -- many operands it keeps, and how many below these it drops. Core Specification 3.0, Execution, Control Instructions.
-use Rattle.std.specs.Prelude.{ℕ, zero, suc, ◌+◌, ◌-◌, max, List, [], ◌∷◌, ◌++◌, map, length, drop, Option, Some, None, slice_get}
+use Rattle.std.specs.Prelude.{ℕ, zero, suc, ◌+◌, ◌-◌, max, true, false, List, [], ◌∷◌, ◌++◌, map, length, drop, Option, Some, None, slice_get}
 use Rattle.std.specs.Option.{option_map}
 use Rattle.wasm_operator_steps.specs.WasmSpecRules.WasmSpec.MatchingTests.{World}
 use Rattle.wasm_operator_steps.specs.WasmSpecRules.Attempts.{◌>>=◌}
