@@ -30,7 +30,7 @@ use Rattle.wasm_spec_instructions.specs.Scopes.{Scope, behind}
 use Rattle.wasm_spec_instructions.specs.Rules.{sets_of, Rule, plain_rule}
 use Rattle.wasm_spec_instructions.specs.Sequences.{Typed, instruction_rule, if_else_rule, sequence_rule, frame_rule}
 use Rattle.wasm_spec_instructions.specs.Expressions.{body_scope}
-use Rattle.wasm_spec_instructions.proofs.Attempts.{the_same, absent}
+use Rattle.wasm_spec_instructions.proofs.Attempts.{no, the_same, absent}
 use Rattle.wasm_spec_instructions.proofs.Fits.{match-itself}
 use Rattle.wasm_spec_instructions.proofs.Fixed.{fixed_types_have_their_rules}
 use Rattle.wasm_spec_instructions.proofs.Orders.{worlds_are_in_order}
@@ -39,7 +39,7 @@ use Rattle.wasm_laws_values.specs.Outcomes.{Answer, gives, Primitives}
 use Rattle.wasm_laws_values.specs.Fits.{Grows, Reaches, InstanceFits, IsTypedCode, IsTypedFunction, StoreFits, IsKept, gives_them, may_fail, FunctionsMatch}
 use Rattle.wasm_laws_values.proofs.Values.{grows-refl}
 use Rattle.wasm_laws_values.proofs.Outcomes.{function-grows, exception-grows}
-use Rattle.wasm_laws_soundness.specs.Promises.{KeepsPromises}
+use Rattle.wasm_laws_soundness.specs.Promises.{it_ends, KeepsPromises}
 use Rattle.wasm_laws_soundness.specs.Example.{bits_of, number, of_two, calculated, given, with_contents, row_at, number_in, written, stored, accessed, made, read_as, content_at, structured, computed, small, declared_there, small_world, product, factorial_code, around_it, its_instance, factorial, its_store, ExampleWorks}
 
 module _ {R : Type 0} (W : World R) (o : IsInOrder W) where
@@ -170,6 +170,8 @@ module _ {R : Type 0} (W : World R) (o : IsInOrder W) where
   pub small-keeps : KeepsPromises W (small W)
   small-keeps = record {
     computes = λ i B I C ts us vs S e r h k v. computed-kept B C i I ts us vs S r h;
+    resumes = λ i hs B I C ts us vs S e r h k v. it_ends may_fail;
+    describes = λ q r from h B I d v S e f w k i j m. no m;
     finds = λ x t B I vs S e h k v. may_fail;
     acts = λ a k f g vs S e w q h v. may_fail;
     throws = λ B I x vs S e. refl;

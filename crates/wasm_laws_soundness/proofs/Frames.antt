@@ -13,13 +13,14 @@ use Rattle.wasm_operator_steps.specs.Bodies.{Surroundings}
 use Rattle.wasm_operator_steps.specs.Shapes.{shape_of}
 use Rattle.wasm_operator_steps.specs.Meanings.{resolve_block, block_signature}
 use Rattle.wasm_spec_instructions.specs.Code.{Opening, a_block, a_loop, an_if, a_try, a_try_table, a_catch, a_catch_all, Code, done, simply, enclosing, choosing_between, handling, delegating_to, Handlers, last_handler, catch_before}
+use Rattle.wasm_operators.specs.WasmOperatorsProposals.declared.continuations.Handle.{Handle}
 use Rattle.wasm_operators.specs.declared.control.Catch.{Catch}
 use Rattle.wasm_operators.specs.declared.control.Catch.TheVariants as catch
 use Rattle.wasm_laws_values.specs.Values.{Value, i32_value, null, function_at, exception_at, other, Instance, Definition, defined, hosted, Function, Exception, signature_in, is_of}
-use Rattle.wasm_laws_values.specs.Outcomes.{State, branches, throws, calls_in_place, rethrows, delegates, returns, traps, out_of_steps, stuck, Outcome, falls_through, leaves, Answer, gives, raises, fails, Primitives, cut_if, cut, on_cut, with_top, on_some, on_number, on_one, on_exception, on_function, on_reference, pick, either, on_choice, on_set, put, holding, writing, next, pushing, with_store, answered, on_answer, label, again_from, handed, in_block, in_either, threw, catching, entered, back}
+use Rattle.wasm_laws_values.specs.Outcomes.{State, branches, throws, calls_in_place, rethrows, delegates, returns, traps, out_of_steps, stuck, Outcome, falls_through, leaves, Answer, gives, raises, fails, Resumed, ends, suspends, Primitives, cut_if, cut, on_cut, with_top, on_some, on_number, on_one, on_exception, on_function, on_reference, pick, either, on_choice, on_set, put, holding, writing, next, pushing, with_store, answered, on_answer, label, again_from, handed, in_block, in_either, threw, catching, entered, back}
 use Rattle.wasm_laws_soundness.specs.Roles as role
-use Rattle.wasm_laws_soundness.specs.Roles.{Callee, by_index, by_reference, by_table, Role, role_of, operand_count}
-use Rattle.wasm_laws_soundness.specs.Interpreter.{Task, does, invokes, label_for, finish, enter_function, with_function, invoke, invoke_in_place, if_of_type, with_callee, by_cast, step_as, if_tag, caught, with_signature, enter, exec, handle, run}
+use Rattle.wasm_laws_soundness.specs.Roles.{Callee, by_index, by_reference, by_table, Role, role_of, handler_at, operand_count}
+use Rattle.wasm_laws_soundness.specs.Interpreter.{Task, does, invokes, label_for, finish, enter_function, with_function, invoke, invoke_in_place, if_of_type, with_callee, by_cast, is_described, by_description, resumed, step_as, if_tag, caught, with_signature, enter, exec, handle, run}
 use Rattle.wasm_laws_soundness.specs.Frames.{over, IsSame, falls_so, branches_so, returns_so, calls_so, throws_so, rethrows_so, delegates_so, traps_so, waits_so, stuck_so, NoRunReadsBelow}
 
 module _ {R : Type 0} where
@@ -339,6 +340,38 @@ module _ {R : Type 0} (W : World R) (P : Primitives R) (again : Task R → State
         (λ v. by_cast W P again B I sends l (over below s) (below ++ front) v (is_of W s.store r v))
         (λ v. by_cast-same sends l s front v (is_of W s.store r v))))
 
+    described-same :
+        (sends : Bool → Bool) (l : ℕ) (q : Ref ℕ) (s : State R) (d : Value R)
+        → IsSame below (by_description W P again B I sends l q s d) (by_description W P again B I sends l q (over below s) d)
+    described-same sends l q s d =
+        with_top-same 1 s.operands
+        (λ front top. on_some (λ r. on_one (λ v. by_cast W P again B I sends l s front v (is_described P s.store r d v)) top) (resolve_ref B.context.types q))
+        (λ front top. on_some (λ r. on_one (λ v. by_cast W P again B I sends l (over below s) front v (is_described P s.store r d v)) top) (resolve_ref B.context.types q))
+        (λ front top. on_some-same (resolve_ref B.context.types q) (λ r. on_one (λ v. by_cast W P again B I sends l s front v (is_described P s.store r d v)) top)
+        (λ r. on_one (λ v. by_cast W P again B I sends l (over below s) (below ++ front) v (is_described P s.store r d v)) top)
+        (λ r. on_one-same top (λ v. by_cast W P again B I sends l s front v (is_described P s.store r d v))
+        (λ v. by_cast W P again B I sends l (over below s) (below ++ front) v (is_described P s.store r d v))
+        (λ v. by_cast-same sends l s front v (is_described P s.store r d v))))
+
+    descriptions-same :
+        (sends : Bool → Bool) (l : ℕ) (q : Ref ℕ) (s : State R)
+        → IsSame below (with_top 1 s.operands (λ front top. on_reference (leaves traps) (λ d. by_description W P again B I sends l q (holding front s) d) top))
+        (with_top 1 (below ++ s.operands) (λ front top. on_reference (leaves traps) (λ d. by_description W P again B I sends l q (holding front (over below s)) d) top))
+    descriptions-same sends l q s =
+        with_top-same 1 s.operands (λ front top. on_reference (leaves traps) (λ d. by_description W P again B I sends l q (holding front s) d) top)
+        (λ front top. on_reference (leaves traps) (λ d. by_description W P again B I sends l q (holding front (over below s)) d) top)
+        (λ front top. on_reference-same top (leaves traps) (leaves traps) (λ d. by_description W P again B I sends l q (holding front s) d)
+        (λ d. by_description W P again B I sends l q (holding (below ++ front) s) d) traps_so
+        (λ d. described-same sends l q (holding front s) d))
+
+    resumed-same :
+        (hs : List Handle) (front : List (Value R)) (s : State R) (o : Resumed R)
+        → IsSame below (resumed W P again B I hs front s o) (resumed W P again B I hs (below ++ front) (over below s) o)
+    resumed-same hs front s (ends r) = answered-same front s r
+    resumed-same hs front s (suspends k vs v T) =
+        on_some-same (handler_at hs k) (λ y. leaves (branches y.1 (holding (vs ++ v ∷ []) (with_store T s))))
+        (λ y. leaves (branches y.1 (holding (vs ++ v ∷ []) (with_store T (over below s))))) (λ y. branches_so [])
+
     step-same : (r : Role) (i : Instruction ℕ) (s : State R) → IsSame below (step_as W P again B I r i s) (step_as W P again B I r i (over below s))
     step-same role.computing i s =
         on_some-same (operand_count W B (shape_of i)) (λ n. with_top n s.operands (λ front top. answered front s (P.computes i B I top s.store)))
@@ -425,6 +458,14 @@ module _ {R : Type 0} (W : World R) (P : Primitives R) (again : Task R → State
     step-same (role.calling_in_place c) i s = with_callee-same c (invoke_in_place W P again) s (λ a t. in_place-same a t)
     step-same (role.branching_on_cast l q) i s = casts-same (λ b. b) l (resolve_ref B.context.types q) s
     step-same (role.branching_on_failure l q) i s = casts-same not l (resolve_ref B.context.types q) s
+    step-same (role.branching_on_description l q) i s = descriptions-same (λ b. b) l q s
+    step-same (role.branching_on_no_description l q) i s = descriptions-same not l q s
+    step-same (role.resuming hs) i s =
+        on_some-same (operand_count W B (shape_of i)) (λ n. with_top n s.operands (λ front top. resumed W P again B I hs front s (P.resumes i B I top s.store)))
+        (λ n. with_top n (below ++ s.operands) (λ front top. resumed W P again B I hs front (over below s) (P.resumes i B I top s.store)))
+        (λ n. with_top-same n s.operands (λ front top. resumed W P again B I hs front s (P.resumes i B I top s.store))
+        (λ front top. resumed W P again B I hs front (over below s) (P.resumes i B I top s.store))
+        (λ front top. resumed-same hs front s (P.resumes i B I top s.store)))
 
     -- clauses and handlers: of what was thrown the operands don't count
     if_tag-same :

@@ -30,13 +30,13 @@ use Rattle.wasm_operators.specs.WasmOperatorsAtomic.declared.shared_forms.Shared
 use Rattle.wasm_operators.specs.WasmOperatorsAtomic.declared.shared_forms.Access.{Access}
 use Rattle.wasm_operators.specs.WasmOperatorsAtomic.declared.shared_forms.Access.TheVariants as access
 use Rattle.wasm_operators.specs.WasmOperatorsProposals.declared.accesses.AccessValues.{AccessValues}
-use Rattle.wasm_operator_steps.specs.Actions.{OperandTypes, these, label, returned, repeated, front, last, joined, params, results, of_type, of_function, table_address, table_element, global, field, element, Check, each_matches}
-use Rattle.wasm_operator_steps.specs.Shapes.{Shape, plain, ending, measuring, comparing, converting, computing, table_shape, access_shape, memory_shape, conversion_shape, struct_shape, array_shape, wide_shape, address_of, access_taken, access_of, shared_place, shared_value, nothing, one, nullable_to, difference, returns, holds_functions, indirect_checks, reference_to, branch_checks, kept}
-use Rattle.wasm_operator_steps.specs.Meanings.{signature_at, address}
+use Rattle.wasm_operator_steps.specs.Actions.{OperandTypes, these, label, returned, repeated, front, last, taken_by, given_by, joined, before, behind, params, results, of_type, of_function, table_address, table_element, global, field, element, Check, each_matches}
+use Rattle.wasm_operator_steps.specs.Shapes.{Shape, plain, ending, measuring, comparing, converting, describing, computing, table_shape, access_shape, memory_shape, conversion_shape, struct_shape, array_shape, wide_shape, address_of, access_taken, access_of, shared_place, shared_value, nothing, one, nullable_to, difference, returns, holds_functions, indirect_checks, reference_to, branch_checks, kept}
+use Rattle.wasm_operator_steps.specs.Meanings.{signature_at, address, continued_signature}
 use Rattle.wasm_operator_steps.specs.Meanings as meaning
 use Rattle.wasm_spec_instructions.specs.ValueTypes.{ValueType, val, vals, reference_at, Match}
 use Rattle.wasm_spec_instructions.specs.Scopes.{Scope, types_in, AllHold}
-use Rattle.wasm_spec_instructions.specs.Rules.{sets_of, Rule, plain_rule, ending_rule, measuring_rule, comparing_rule, converting_rule}
+use Rattle.wasm_spec_instructions.specs.Rules.{sets_of, Rule, plain_rule, ending_rule, measuring_rule, comparing_rule, converting_rule, describing_exactly_rule, describing_rule}
 use Rattle.wasm_spec_instructions.proofs.Attempts.{no, the_same, absent, bind-gives, passes-gives, and-both, with_last}
 use Rattle.wasm_spec_instructions.proofs.Fits.{vals-append, true-match}
 use Rattle.wasm_laws_values.specs.Values.{signature_in}
@@ -68,7 +68,11 @@ is_fixed returned = false
 is_fixed (repeated n t) = is_fixed t
 is_fixed (front t) = is_fixed t
 is_fixed (last t) = is_fixed t
+is_fixed (taken_by t) = is_fixed t
+is_fixed (given_by t) = is_fixed t
 is_fixed (joined t u) = is_fixed t && is_fixed u
+is_fixed (before t u) = is_fixed t && is_fixed u
+is_fixed (behind t u) = is_fixed t && is_fixed u
 is_fixed _ = true
 
 abbrev pub is_computing : Shape → Bool
@@ -76,6 +80,7 @@ is_computing (plain cs t u) = is_fixed t
 is_computing (measuring cs k t) = true
 is_computing (comparing cs t) = true
 is_computing (converting cs j k) = true
+is_computing (describing cs n) = true
 is_computing _ = false
 
 pub sets-nothing : (s : Shape) → is_computing s ≡ true → sets_of s ≡ []
@@ -83,6 +88,7 @@ sets-nothing (plain cs t u) e = refl
 sets-nothing (measuring cs k t) e = refl
 sets-nothing (comparing cs t) e = refl
 sets-nothing (converting cs j k) e = refl
+sets-nothing (describing cs n) e = refl
 sets-nothing _ e = no e
 
 -- all instructions whose role it is
@@ -153,6 +159,14 @@ module _ {R : Type 0} (W : World R) (B : Surroundings R) where
   fixed labels returns (joined t u) e =
       let k = and-both (is_fixed t) (is_fixed u) e in
       (λ i. fixed labels returns t k.0 i >>= λ vs. fixed labels returns u k.1 i >>= λ ws. Some (vs ++ ws))
+  fixed labels returns (taken_by t) e = ap (λ (o : Option (List (Val R))). option_map (λ g. g.takes) (o >>= continued_signature W B)) (fixed labels returns t e)
+  fixed labels returns (given_by t) e = ap (λ (o : Option (List (Val R))). option_map (λ g. g.gives) (o >>= continued_signature W B)) (fixed labels returns t e)
+  fixed labels returns (before t u) e =
+      let k = and-both (is_fixed t) (is_fixed u) e in
+      (λ i. fixed labels returns t k.0 i >>= λ vs. fixed labels returns u k.1 i >>= λ ws. meaning.all_but (length ws) vs)
+  fixed labels returns (behind t u) e =
+      let k = and-both (is_fixed t) (is_fixed u) e in
+      (λ i. fixed labels returns t k.0 i >>= λ vs. fixed labels returns u k.1 i >>= λ ws. meaning.last_ones (length ws) vs)
   fixed labels returns _ e = refl
 
   module _ (C : Scope R) where
@@ -162,6 +176,8 @@ module _ {R : Type 0} (W : World R) (B : Surroundings R) where
     counted (measuring cs k t) ts us e (measuring_rule b h f) = refl
     counted (comparing cs t) ts us e (comparing_rule b h f) = refl
     counted (converting cs j k) ts us e (converting_rule n b h) = refl
+    counted (describing cs n) ts us e (describing_exactly_rule h f g) = refl
+    counted (describing cs n) ts us e (describing_rule h f g) = refl
     counted _ ts us e r = no e
 
     -- the type of an index, and its signature

@@ -1,4 +1,5 @@
 pub mod Inversions
+pub mod Resuming
 pub mod Steps
 pub mod Main
 pub mod Worlds

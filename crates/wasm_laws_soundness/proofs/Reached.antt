@@ -5,17 +5,18 @@ use Rattle.wasm_operator_steps.specs.WasmSpecRules.WasmSpec.MatchingTests.{World
 use Rattle.wasm_operator_steps.specs.WasmSpecRules.Attempts.{◌>>=◌, guard}
 use Rattle.wasm_operators.specs.Control.{Block}
 use Rattle.wasm_operator_steps.specs.Bodies.{Surroundings}
-use Rattle.wasm_operator_steps.specs.Machine.{Operand, Kind, if_kind, else_kind, legacy_try_kind, legacy_catch_kind, as_reference, chosen, non_null, matches_operand}
-use Rattle.wasm_operator_steps.specs.Actions.{Check, Action, need, refuse, take, give, take_any, take_reference, take_comparable, make_non_null, choose, stop, turn_to_else, leave, take_below, convert, enter, set, branch_on_null, branch_to_one_of, turn_to_catch, find_outside, find_caught}
+use Rattle.wasm_operator_steps.specs.Machine.{Operand, known, Kind, if_kind, else_kind, legacy_try_kind, legacy_catch_kind, as_reference, chosen, non_null, matches_operand}
+use Rattle.wasm_operator_steps.specs.Actions.{Check, Action, need, refuse, take, give, take_any, take_reference, take_comparable, make_non_null, choose, stop, turn_to_else, leave, take_below, convert, describe, enter, set, branch_on_null, branch_to_one_of, turn_to_catch, find_outside, find_caught}
 use Rattle.wasm_operator_steps.specs.Shapes.{Shape, legacy_checks}
-use Rattle.wasm_operator_steps.specs.Meanings.{resolve_block, block_signature, is_below_either, agree, converted, may_end}
+use Rattle.wasm_operator_steps.specs.Meanings.{resolve_block, block_signature, descriptor_at, is_below_either, agree, converted, may_end}
 use Rattle.wasm_operator_steps.specs.Steps.{actions_of, checked}
 use Rattle.wasm_spec_instructions.specs.Code.{Opening, an_if, a_try, a_catch, Code, done, enclosing, choosing_between, handling, delegating_to, Handlers, last_handler, catch_before, kind_of, block_of, checks_of, condition_of, handler_kind}
-use Rattle.wasm_spec_instructions.specs.ValueTypes.{ValueType}
+use Rattle.wasm_spec_instructions.specs.ValueTypes.{ValueType, reference_at}
 use Rattle.wasm_spec_instructions.specs.Scopes.{Scope, types_in, holds_in}
-use Rattle.wasm_spec_instructions.specs.Rules.{Rule, plain_rule, ending_rule, dropping_rule, choosing_rule, testing_null_rule, asserting_non_null_rule, branching_on_null_rule, branching_on_non_null_rule, branching_by_table_rule, setting_rule, giving_back_rule, measuring_rule, comparing_rule, converting_rule, rethrowing_rule}
+use Rattle.wasm_spec_instructions.specs.Rules.{Rule, plain_rule, ending_rule, dropping_rule, choosing_rule, testing_null_rule, asserting_non_null_rule, branching_on_null_rule, branching_on_non_null_rule, branching_by_table_rule, setting_rule, giving_back_rule, measuring_rule, comparing_rule, converting_rule, describing_exactly_rule, describing_rule, rethrowing_rule}
 use Rattle.wasm_spec_instructions.proofs.Attempts.{no, absent, the_same, bind-gives, guard-gives}
-use Rattle.wasm_spec_instructions.proofs.Within.{Stack, Entered, starting, fresh, deeper, entered, taking, signed, lenter_block, lenter, lend, lshut, lcatch, ldelegate, check, handle, lpop_in, lpop, lpop_val, matched, lpops, referring, referred, lpop_reference, lpush, lput, without, below, compared, compare_of, put_non_null, converting_to, and_choose, choose_of, null_for, null_at, given_back, lgrown, is_caught, lact, lrun}
+use Rattle.wasm_spec_instructions.proofs.Within.{Stack, Entered, starting, fresh, deeper, entered, taking, signed, lenter_block, lenter, lend, lshut, lcatch, ldelegate, check, handle, lpop_in, lpop, lpop_val, matched, lpops, referring, referred, lpop_reference, lpush, lput, without, below, compared, compare_of, put_non_null, converting_to, and_choose, choose_of, null_for, null_at, given_back, ldescribed, described_of, lgrown, is_caught, lact, lrun}
+use Rattle.wasm_spec_instructions.proofs.Describing.{at_type, described-gives}
 
 module _ {R : Type 0} where
   same_reach : (p q : Stack R) → p ≡ q → q.unreached ≡ p.unreached
@@ -98,6 +99,11 @@ module _ {R : Type 0} (W : World R) (B : Surroundings R) (C : Scope R) where
       let f = bind-gives (lpop_reference p) (converting_to W B j k) q e in
       let g = guard-gives (is_below_either W B j f.0.0) (lput (converted W B k f.0.0) f.0.1) q f.2 in
       same_reach (lput (converted W B k f.0.0) f.0.1) q g.1 ∙ pop_reference-reach p f.0 f.1
+  act-reach (describe n) p q h e =
+      let a = bind-gives (slice_get B.context.types n) (described_of W B n p) q e in
+      let b = bind-gives (descriptor_at W B n) (λ x. ldescribed W a.0 x p) q a.2 in
+      let d = described-gives W a.0 b.0 p q b.2 in
+      same_reach (lput (known (reference_at false (at_type d.exactly b.0))) d.left) q d.is ∙ pops-reach W (reference_at true (at_type d.exactly a.0) ∷ []) p d.left d.pops
   act-reach take_comparable p q h e =
       let f = bind-gives (lpop_reference p) (compare_of W B) q e in
       let k = bind-gives (lpop_reference f.0.1) (compared W B f.0.0) q f.2 in
@@ -144,6 +150,8 @@ goes_on_or_gives_any W B C s ts us (giving_back_rule y e) = inl refl
 goes_on_or_gives_any W B C s ts us (measuring_rule {cs = cs} {k = k} {t = t} f h e) = inl (checked-go_on cs (take_below k ∷ give t ∷ []) refl)
 goes_on_or_gives_any W B C s ts us (comparing_rule {cs = cs} {t = t} f h e) = inl (checked-go_on cs (take_comparable ∷ give t ∷ []) refl)
 goes_on_or_gives_any W B C s ts us (converting_rule {cs = cs} {j = j} {k = k} n f h) = inl (checked-go_on cs (convert j k ∷ []) refl)
+goes_on_or_gives_any W B C s ts us (describing_exactly_rule {cs = cs} {n = n} h e f) = inl (checked-go_on cs (describe n ∷ []) refl)
+goes_on_or_gives_any W B C s ts us (describing_rule {cs = cs} {n = n} h e f) = inl (checked-go_on cs (describe n ∷ []) refl)
 
 -- blocks, whose end is reached as their start is
 module _ {R : Type 0} (W : World R) (B : Surroundings R) where

@@ -1,7 +1,7 @@
 -- One instruction does what its rule promises.
 use Rattle.std.proofs.Common.{◌≡◌, refl, sym, ap, subst, ◌∙◌, ℕ, zero, suc, Bool, true, false, not, List, [], ◌∷◌, ◌++◌, append_assoc, append-nil, Option, Some, length, slice_get}
-use Rattle.wasm_operator_steps.specs.WasmSpecRules.WasmSpec.Syntax.{func_heap, Heap, abstract_heap, concrete, Ref, Val, i32, reference, Table}
-use Rattle.wasm_operator_steps.specs.WasmSpecRules.WasmSpec.MatchingTests.{World, matches_val}
+use Rattle.wasm_operator_steps.specs.WasmSpecRules.WasmSpec.Syntax.{func_heap, Heap, abstract_heap, concrete, exact, Ref, Val, i32, reference, Table}
+use Rattle.wasm_operator_steps.specs.WasmSpecRules.WasmSpec.MatchingTests.{World, matches_heap, matches_val}
 use Rattle.wasm_operator_steps.specs.WasmSpecRules.Signatures.{Signature, resolve_ref}
 use Rattle.wasm_operators.specs.Control as control
 use Rattle.wasm_operators.specs.Control.{Control, Parametric}
@@ -9,6 +9,9 @@ use Rattle.wasm_operators.specs.Legacy as legacy
 use Rattle.wasm_operators.specs.Legacy.{Legacy}
 use Rattle.wasm_operators.specs.References as references
 use Rattle.wasm_operators.specs.References.{Reference, Cast}
+use Rattle.wasm_operators.specs.Continuations as continuations
+use Rattle.wasm_operators.specs.Continuations.{Continuation}
+use Rattle.wasm_operators.specs.WasmOperatorsProposals.declared.continuations.Handle.{Handle}
 use Rattle.wasm_operators.specs.Instructions as instruction
 use Rattle.wasm_operators.specs.Instructions.{Instruction}
 use Rattle.wasm_operators.specs.WasmOperatorsPlain.Signatures.{signature_of, saturating_signature_of}
@@ -17,29 +20,33 @@ use Rattle.wasm_operators.specs.WasmOperatorsPlain.declared.calls.CallOperator.T
 use Rattle.wasm_operators.specs.WasmOperatorsPlain.declared.variables.VariableOperator.{VariableOperator}
 use Rattle.wasm_operators.specs.WasmOperatorsPlain.declared.variables.VariableOperator.TheVariants.{LocalGet, LocalSet, LocalTee, GlobalGet, GlobalSet}
 use Rattle.wasm_operator_steps.specs.Bodies.{Local, Surroundings}
-use Rattle.wasm_operator_steps.specs.Actions.{of_tag, has, allows, reaches_type, reference_types, function_references}
-use Rattle.wasm_operator_steps.specs.Shapes.{shape_of, reference_to}
-use Rattle.wasm_operator_steps.specs.Meanings.{signature_at, function_heap, address}
+use Rattle.wasm_operator_steps.specs.Actions.{of_tag, has, allows, reaches_type, reference_types, function_references, descriptor_operators, custom_descriptors}
+use Rattle.wasm_operator_steps.specs.Shapes.{shape_of, reference_to, branch_checks, kept, difference}
+use Rattle.wasm_operator_steps.specs.Meanings.{signature_at, function_heap, descriptor_heap, address}
 use Rattle.wasm_spec_instructions.specs.Code.{Code}
 use Rattle.wasm_spec_instructions.specs.ValueTypes.{ValueType, val, vals, reference_at, reference_type, matches_type, Match, each, IsInOrder}
 use Rattle.wasm_spec_instructions.specs.Scopes.{Scope, is_set}
-use Rattle.wasm_spec_instructions.specs.Rules.{sets_of, MatchLabels, Rule}
+use Rattle.wasm_spec_instructions.specs.Rules.{sets_of, MatchLabels, Rule, plain_rule}
 use Rattle.wasm_spec_instructions.specs.Sequences.{Typed}
 use Rattle.wasm_spec_instructions.specs.Names.{RulesByName}
 use Rattle.wasm_spec_instructions.specs.Fixed.{FixedTypes}
+use Rattle.wasm_spec_instructions.specs.Continued.{HandlesAll}
 use Rattle.wasm_spec_instructions.specs.Expressions.{body_scope}
 use Rattle.wasm_spec_instructions.proofs.Attempts.{no, the_same, absent}
 use Rattle.wasm_spec_instructions.proofs.Fits.{vals-append, val-through, true-match}
 use Rattle.wasm_spec_instructions.proofs.Names.{instructions_have_their_rules}
 use Rattle.wasm_spec_instructions.proofs.Fixed.{fixed_types_have_their_rules}
-use Rattle.wasm_laws_values.specs.Values.{Value, i32_value, null, function_at, Instance, Definition, defined, hosted, Function, Store, exception_heap, signature_in, is_of, HasType, is_i32, is_null, is_function, HaveTypes, no_values, and_value}
-use Rattle.wasm_laws_values.specs.Outcomes.{State, branches, throws, calls_in_place, returns, traps, Outcome, falls_through, leaves, Primitives, with_top, on_some, on_number, on_one, on_exception, on_function, on_reference, pick, either, on_choice, on_set, holding, writing, pushing, with_store, answered, on_answer, threw, entered, back}
-use Rattle.wasm_laws_values.specs.Fits.{Grows, Reaches, Carries, IsTypedCode, IsTypedFunction, StoreFits, Fits, branching, returning, throwing, calling, rethrowing, delegating, trapping, waiting, IsPromised, falling, leaving}
-use Rattle.wasm_laws_values.proofs.Values.{long, type-match, above-match, types-append, grows-refl, types-grow, must_hold, start-fits, get-last}
+use Rattle.wasm_spec_instructions.proofs.Continued.{handles}
+use Rattle.wasm_laws_values.specs.Values.{Value, i32_value, null, function_at, exception_at, other, Instance, Definition, defined, hosted, Function, Store, exception_heap, signature_in, is_of, HasType, is_i32, is_null, is_function, is_exception, is_other, HaveTypes, no_values, and_value}
+use Rattle.wasm_laws_values.specs.Outcomes.{State, branches, throws, calls_in_place, returns, traps, Outcome, falls_through, leaves, Resumed, Primitives, with_top, on_some, on_number, on_one, on_exception, on_function, on_reference, pick, either, on_choice, on_set, holding, writing, pushing, with_store, answered, on_answer, threw, entered, back}
+use Rattle.wasm_laws_values.specs.Fits.{Grows, Reaches, Carries, IsTypedCode, IsTypedFunction, InstanceFits, StoreFits, Fits, branching, returning, throwing, calling, rethrowing, delegating, trapping, waiting, IsPromised, falling, leaving}
+use Rattle.wasm_laws_values.proofs.Values.{long, type-match, types-match, above-match, types-append, grows-refl, types-grow, must_hold, start-fits, get-last}
 use Rattle.wasm_laws_values.proofs.Outcomes.{with_top-promised, on_some-promised, pick-promised, either-promised, on_number-promised, on_one-promised, on_reference-promised, on_choice-promised, on_exception-promised, on_function-promised, func-of_functions, concrete-of_functions, fits-with, fits-now, fits-in, promised-since, lesser, put_on, writing-promised, answered-promised, on_answer-promised, threw-fits, back-fits, cast-has, cast-lacks}
 use Rattle.wasm_laws_soundness.specs.Roles as role
-use Rattle.wasm_laws_soundness.specs.Roles.{Callee, by_index, by_reference, by_table, role_of, operand_count}
-use Rattle.wasm_laws_soundness.specs.Interpreter.{Task, does, invokes, label_for, finish, enter_function, with_function, invoke, invoke_in_place, if_of_type, with_callee, by_cast, step_as, step}
+use Rattle.wasm_laws_soundness.specs.Roles.{Callee, by_index, by_reference, by_table, role_of, handler_at, operand_count}
+use Rattle.wasm_laws_soundness.specs.Interpreter.{Task, does, invokes, label_for, finish, enter_function, with_function, invoke, invoke_in_place, if_of_type, with_callee, by_cast, is_described, by_description, resumed, step_as, step}
+use Rattle.wasm_laws_soundness.specs.Promises.{RefersToContinuation, IsResumed, it_ends, it_suspends}
+use Rattle.wasm_laws_soundness.proofs.Resuming.{with_descriptor, handler_is}
 use Rattle.wasm_laws_soundness.specs.Laws.{AreSound}
 use Rattle.wasm_operators.specs.WasmOperatorsAtomic.SharedForms as shareds
 use Rattle.wasm_laws_soundness.proofs.Inversions.{sets-nothing, is_computing, counted, table-computes, access-computes, memory-computes, signature-computes, conversion-computes, struct-computes, array-computes, form-computes, wide-computes, access_form-computes, function_signed, gives_null as gives_a_null, selects_of, calls_by_reference, calls_by_table, calls_by_reference_in_place, calls_by_table_in_place, Casts, branches_on_cast as are_cast, branches_on_failure as are_not_cast}
@@ -80,6 +87,14 @@ vals-through W o (t ∷ ts) (u ∷ us) (v ∷ vs) (each e m) (each f k) = each (
 vals-through W o (t ∷ ts) [] vs m k = elim m [ ]
 vals-through W o [] (u ∷ us) vs m k = elim m [ ]
 vals-through W o (t ∷ ts) (u ∷ us) [] m k = elim k [ ]
+
+not-true : (b : Bool) → not b ≡ true → b ≡ false
+not-true true e = sym e
+not-true false e = refl
+
+not-false : (b : Bool) → not b ≡ false → b ≡ true
+not-false true e = refl
+not-false false e = sym e
 
 module _ {R : Type 0} (W : World R) (P : Primitives R) (a : AreSound W P) (again : Task R → State R → Outcome R) (sound : Sound W P again) where
   -- the end of a function
@@ -434,14 +449,116 @@ module _ {R : Type 0} (W : World R) (P : Primitives R) (a : AreSound W P) (again
         (cast-lacks W s.store c.from c.to c.lacking c.same_heap c.same_null k (not-true (is_of W s.store c.to v) e))))
         (λ e. gives-left rest (vals c.sent) (val (reference c.to) ∷ []) (pushing below v s)
         (push (rest ++ vals c.sent) below v s f (cast-has W s.store c.from c.to k (not-false (is_of W s.store c.to v) e)))))))
-      where
-        not-true : (b : Bool) → not b ≡ true → b ≡ false
-        not-true true e = sym e
-        not-true false e = refl
 
-        not-false : (b : Bool) → not b ≡ false → b ≡ true
-        not-false true e = refl
-        not-false false e = sym e
+    -- branches by descriptors
+    has-described :
+        (q : Ref ℕ) (from to : Ref R) (k : Heap R) (d : Value R) {v : Value R} (S : Store R)
+        → resolve_ref B.context.types q ≡ Some to → descriptor_heap W B q.heap ≡ Some k → StoreFits W P S → InstanceFits W P S B I
+        → HasType W S d (val (reference_at false k)) → HasType W S v (val (reference from)) → is_described P S to d v ≡ true → HasType W S v (val (reference to))
+    has-described q from to k d S e f g h w (is_null n) m = is_null m
+    has-described q from to k d S e f g h w (is_function {a = x} z i j) m = a.keep.describes q to from k B I d (function_at x) S e f g h w (is_function z i j) m
+    has-described q from to k d S e f g h w (is_exception {a = x} z i j) m = a.keep.describes q to from k B I d (exception_at x) S e f g h w (is_exception z i j) m
+    has-described q from to k d S e f g h w (is_other {h = x} {n = n} i j) m = a.keep.describes q to from k B I d (other x n) S e f g h w (is_other i j) m
+
+    lacks-described :
+        (from to lacking : Ref R) (d : Value R) {v : Value R} (S : Store R) → lacking.heap ≡ from.heap → (to.nullable ≡ false → lacking.nullable ≡ from.nullable)
+        → HasType W S v (val (reference from)) → is_described P S to d v ≡ false → HasType W S v (val (reference lacking))
+    lacks-described from to lacking d S w n (is_null m) e = is_null (n e ∙ m)
+    lacks-described from to lacking d S w n (is_function f i m) e = is_function f i (ap (matches_heap W (exact f.type)) w ∙ m)
+    lacks-described from to lacking d S w n (is_exception x i m) e = is_exception x i (ap (matches_heap W exception_heap) w ∙ m)
+    lacks-described from to lacking d S w n (is_other {h = x} i m) e = is_other i (ap (matches_heap W x) w ∙ m)
+
+    by_descriptor :
+        (sends_it : Bool → Bool) (l : ℕ) (q : Ref ℕ) (ts us : List (ValueType R)) (c : Casts W B C l q ts) (k : Heap R) (rest : List (ValueType R)) (s : State R)
+        → descriptor_heap W B q.heap ≡ Some k
+        → ((below : List (Value R)) (d v : Value R) → Fits W P B I s.store C.sets (rest ++ vals c.sent) (holding below s)
+        → HasType W s.store d (val (reference_at false k)) → HasType W s.store v (val (reference c.from))
+        → (sends_it (is_described P s.store c.to d v) ≡ true → Q s.store [] us (leaves (branches l (holding (below ++ v ∷ []) s))))
+        × (sends_it (is_described P s.store c.to d v) ≡ false → Q s.store [] us (pushing below v s)))
+        → Fits W P B I s.store C.sets (rest ++ ((vals c.sent ++ val (reference c.from) ∷ []) ++ val (reference_at true k) ∷ [])) s
+        → Q s.store [] us (with_top 1 s.operands (λ below top. on_reference (leaves traps) (λ d. by_description W P again B I sends_it l q (holding below s) d) top))
+    by_descriptor sends_it l q ts us c k rest s e g h =
+        on_top 1 [] us (rest ++ (vals c.sent ++ val (reference c.from) ∷ [])) (val (reference_at true k) ∷ []) s
+        (λ below top. on_reference (leaves traps) (λ d. by_description W P again B I sends_it l q (holding below s) d) top) refl
+        (fits-left rest (vals c.sent ++ val (reference c.from) ∷ []) (val (reference_at true k) ∷ []) s h)
+        (λ left top f t. on_reference-promised (Q s.store [] us) (Some k) (leaves traps) (λ d. by_description W P again B I sends_it l q (holding left s) d) top t
+        (leaving trapping)
+        (λ d w. on_top 1 [] us (rest ++ vals c.sent) (val (reference c.from) ∷ []) (holding left s)
+        (λ below top. on_some (λ r. on_one (λ v. by_cast W P again B I sends_it l (holding left s) below v (is_described P s.store r d v)) top) (resolve_ref B.context.types q)) refl
+        (fits-left rest (vals c.sent) (val (reference c.from) ∷ []) (holding left s) f)
+        (λ below top j t. on_some-promised (Q s.store [] us)
+        (λ r. on_one (λ v. by_cast W P again B I sends_it l (holding left s) below v (is_described P s.store r d v)) top)
+        (resolve_ref B.context.types q) c.to c.is
+        (on_one-promised (Q s.store [] us) (λ v. by_cast W P again B I sends_it l (holding left s) below v (is_described P s.store c.to d v)) top t
+        (λ v m. let y = g below d v j w m in
+        either-promised (Q s.store [] us) (sends_it (is_described P s.store c.to d v)) (leaves (branches l (holding (below ++ v ∷ []) s))) (pushing below v s) y.0 y.1)))))
+
+    branches_on_description :
+        (l : ℕ) (q : Ref ℕ) (ts : List (ValueType R)) (c : Casts W B C l q ts) (k : Heap R) (i : Instruction ℕ) (rest : List (ValueType R)) (s : State R)
+        → descriptor_heap W B q.heap ≡ Some k → matches_val W (reference c.to) c.last ≡ true
+        → Fits W P B I s.store C.sets (rest ++ ((vals c.sent ++ val (reference c.from) ∷ []) ++ val (reference_at true k) ∷ [])) s
+        → Q s.store [] (rest ++ (vals c.sent ++ val (reference c.lacking) ∷ [])) (step_as W P again B I (role.branching_on_description l q) i s)
+    branches_on_description l q ts c k i rest s e m h =
+        let us = rest ++ (vals c.sent ++ val (reference c.lacking) ∷ []) in
+        by_descriptor (λ b. b) l q ts us c k rest s e
+        (λ below d v f w t. (
+          (λ y. sends l c.sent c.last us rest below v s c.there f
+              (type-match W a.in_order s.store (val (reference c.to)) (val c.last) m (has-described q c.from c.to k d s.store c.is e h.store h.instance w t y))),
+          (λ y. gives-left rest (vals c.sent) (val (reference c.lacking) ∷ []) (pushing below v s)
+              (push (rest ++ vals c.sent) below v s f (lacks-described c.from c.to c.lacking d s.store c.same_heap c.same_null t y))),
+        ))
+        h
+
+    branches_on_no_description :
+        (l : ℕ) (q : Ref ℕ) (ts : List (ValueType R)) (c : Casts W B C l q ts) (k : Heap R) (i : Instruction ℕ) (rest : List (ValueType R)) (s : State R)
+        → descriptor_heap W B q.heap ≡ Some k → matches_val W (reference c.lacking) c.last ≡ true
+        → Fits W P B I s.store C.sets (rest ++ ((vals c.sent ++ val (reference c.from) ∷ []) ++ val (reference_at true k) ∷ [])) s
+        → Q s.store [] (rest ++ (vals c.sent ++ val (reference c.to) ∷ [])) (step_as W P again B I (role.branching_on_no_description l q) i s)
+    branches_on_no_description l q ts c k i rest s e m h =
+        let us = rest ++ (vals c.sent ++ val (reference c.to) ∷ []) in
+        by_descriptor not l q ts us c k rest s e
+        (λ below d v f w t. (
+          (λ y. sends l c.sent c.last us rest below v s c.there f
+              (type-match W a.in_order s.store (val (reference c.lacking)) (val c.last) m
+              (lacks-described c.from c.to c.lacking d s.store c.same_heap c.same_null t (not-true (is_described P s.store c.to d v) y)))),
+          (λ y. gives-left rest (vals c.sent) (val (reference c.to) ∷ []) (pushing below v s)
+              (push (rest ++ vals c.sent) below v s f
+              (has-described q c.from c.to k d s.store c.is e h.store h.instance w t (not-false (is_described P s.store c.to d v) y)))),
+        ))
+        h
+
+    -- continuations that are resumed
+    resumed-promised :
+        (hs : List Handle) (given : List (Val R)) (below : List (Value R)) (rest ts : List (ValueType R)) (s : State R) (o : Resumed R)
+        → HandlesAll W B C given hs → Fits W P B I s.store C.sets ts s → HaveTypes W s.store below rest
+        → IsResumed W P B hs s.store (vals given) o → Q s.store [] (rest ++ vals given) (resumed W P again B I hs below s o)
+    resumed-promised hs given below rest ts s o c h b (it_ends {r = r} k) = answered-promised W P B I C s below rest (vals given) ts r h b k
+    resumed-promised hs given below rest ts s o c h b (it_suspends {k = k} {vs = vs} {v = v} {T = T} y g f t w x p q) =
+        let d = handler_is W B C hs k y given f c in
+        let same : d.tag ≡ g = the_same d.tag g (sym d.tagged ∙ t) in
+        let refers : RefersToContinuation W B g.gives (vals given) d.last = record {
+          signature = d.left;
+          is = d.refers;
+          takes_those = subst (λ (z : Signature R). Match W (vals d.left.takes) (vals z.gives)) same d.goes_on;
+          gives_those = d.ends;
+        } in
+        on_some-promised (Q s.store [] (rest ++ vals given)) (λ z. leaves (branches z.1 (holding (vs ++ v ∷ []) (with_store T s)))) (handler_at hs k) y f
+        (leaving (branching (d.sent ++ d.last ∷ []) [] d.labelled (fits-in W P B I (vs ++ v ∷ []) h p q
+        (subst (λ (z : List (ValueType R)). HaveTypes W T (vs ++ v ∷ []) z) (sym (vals-append d.sent (d.last ∷ [])))
+        (types-append (types-match W a.in_order T w (subst (λ (z : Signature R). Match W (vals z.takes) (vals d.sent)) same d.sends)) (and_value (x d.last refers) no_values))))))
+
+    resumes :
+        (hs : List Handle) (i : Instruction ℕ) (ts : List (ValueType R)) (given : List (Val R)) → role_of i ≡ role.resuming hs → is_computing (shape_of i) ≡ true
+        → Rule W B C (shape_of i) ts (vals given) → HandlesAll W B C given hs
+        → (rest : List (ValueType R)) (s : State R) → Fits W P B I s.store C.sets (rest ++ ts) s → Q s.store [] (rest ++ vals given) (step_as W P again B I (role.resuming hs) i s)
+    resumes hs i ts given e c r k rest s h =
+        on_some-promised (Q s.store [] (rest ++ vals given)) (λ n. with_top n s.operands (λ below top. resumed W P again B I hs below s (P.resumes i B I top s.store)))
+        (operand_count W B (shape_of i)) (length ts)
+        (counted W B C (shape_of i) ts (vals given) c r)
+        (with_top-promised (Q s.store [] (rest ++ vals given)) (length ts) s.operands
+        (λ below top. resumed W P again B I hs below s (P.resumes i B I top s.store)) rest ts refl h.operands
+        (λ below top b t. resumed-promised hs given below rest (rest ++ ts) s (P.resumes i B I top s.store) k h b
+        (a.keep.resumes i hs B I C ts (vals given) top s.store e r h.store h.instance t)))
 
     -- exceptions
     throws_new :
@@ -726,6 +843,33 @@ module _ {R : Type 0} (W : World R) (P : Primitives R) (a : AreSound W P) (again
         as_typed ts us (vals k.casts.sent ++ val (reference k.casts.from) ∷ []) (vals k.casts.sent ++ val (reference k.casts.to) ∷ []) rest s
         (step W P again B I (instruction.cast (references.br_on_cast_fail l p q)) s) k.casts.takes k.gives
         (branches_on_failure l q ts k.casts (instruction.cast (references.br_on_cast_fail l p q)) rest s k.matches) h
+    cast-steps (references.ref_get_desc x) ts us r rest s h = computes (instruction.cast (references.ref_get_desc x)) ts us refl refl r rest s h
+    cast-steps (references.br_on_cast_desc_eq l p q) ts us r rest s h =
+        let d = with_descriptor W B C (has descriptor_operators) (has custom_descriptors) (branch_checks l p q (reference q)) q (kept l (reference p)) (kept l (difference p q)) ts us r in
+        let k = are_cast W B C l p q d.left us d.rule in
+        as_typed ts us ((vals k.casts.sent ++ val (reference k.casts.from) ∷ []) ++ val (reference_at true d.heap) ∷ []) (vals k.casts.sent ++ val (reference k.casts.lacking) ∷ []) rest s
+        (step W P again B I (instruction.cast (references.br_on_cast_desc_eq l p q)) s)
+        (d.takes ∙ ap (λ (z : List (ValueType R)). z ++ val (reference_at true d.heap) ∷ []) k.casts.takes) k.gives
+        (branches_on_description l q d.left k.casts d.heap (instruction.cast (references.br_on_cast_desc_eq l p q)) rest s d.there k.matches) h
+    cast-steps (references.br_on_cast_desc_eq_fail l p q) ts us r rest s h =
+        let d = with_descriptor W B C (has descriptor_operators) (has custom_descriptors) (branch_checks l p q (difference p q)) q (kept l (reference p)) (kept l (reference q)) ts us r in
+        let k = are_not_cast W B C l p q d.left us d.rule in
+        as_typed ts us ((vals k.casts.sent ++ val (reference k.casts.from) ∷ []) ++ val (reference_at true d.heap) ∷ []) (vals k.casts.sent ++ val (reference k.casts.to) ∷ []) rest s
+        (step W P again B I (instruction.cast (references.br_on_cast_desc_eq_fail l p q)) s)
+        (d.takes ∙ ap (λ (z : List (ValueType R)). z ++ val (reference_at true d.heap) ∷ []) k.casts.takes) k.gives
+        (branches_on_no_description l q d.left k.casts d.heap (instruction.cast (references.br_on_cast_desc_eq_fail l p q)) rest s d.there k.matches) h
+
+    continuation-steps : (op : Continuation) → Stepped (instruction.continuation op)
+    continuation-steps (continuations.cont_new n) ts us r rest s h = computes (instruction.continuation (continuations.cont_new n)) ts us refl refl r rest s h
+    continuation-steps (continuations.cont_bind m n) ts us r rest s h = computes (instruction.continuation (continuations.cont_bind m n)) ts us refl refl r rest s h
+    continuation-steps (continuations.suspend x) ts us r rest s h = computes (instruction.continuation (continuations.suspend x)) ts us refl refl r rest s h
+    continuation-steps (continuations.switch n x) ts us r rest s h = computes (instruction.continuation (continuations.switch n x)) ts us refl refl r rest s h
+    continuation-steps (continuations.resume n hs) ts us (plain_rule {us = given} c e f) rest s h =
+        resumes hs (instruction.continuation (continuations.resume n hs)) ts given refl refl (plain_rule c e f) (handles W B C n hs given f c.1.1.1) rest s h
+    continuation-steps (continuations.resume_throw n x hs) ts us (plain_rule {us = given} c e f) rest s h =
+        resumes hs (instruction.continuation (continuations.resume_throw n x hs)) ts given refl refl (plain_rule c e f) (handles W B C n hs given f c.1.1.1.1) rest s h
+    continuation-steps (continuations.resume_throw_ref n hs) ts us (plain_rule {us = given} c e f) rest s h =
+        resumes hs (instruction.continuation (continuations.resume_throw_ref n hs)) ts given refl refl (plain_rule c e f) (handles W B C n hs given f c.1.1.1) rest s h
 
     pub steps : (i : Instruction ℕ) → Stepped i
     steps (instruction.control op) ts us r rest s h = control-steps op ts us r rest s h
@@ -750,3 +894,4 @@ module _ {R : Type 0} (W : World R) (P : Primitives R) (a : AreSound W P) (again
     steps (instruction.wide op) ts us r rest s h = computes (instruction.wide op) ts us refl (wide-computes op) r rest s h
     steps (instruction.shared op values) ts us r rest s h =
         computes (instruction.shared op values) ts us refl (access_form-computes (shareds.shared_form_of op) values) r rest s h
+    steps (instruction.continuation op) ts us r rest s h = continuation-steps op ts us r rest s h

@@ -24,7 +24,7 @@ use Rattle.wasm_operator_steps.specs.FunctionBodies.{local_taken}
 use Rattle.wasm_operator_steps.specs.Meanings.{exact_if, field_at, unpack_field}
 use Rattle.wasm_spec_instructions.specs.Code.{Code, done, simply, choosing_between}
 use Rattle.wasm_laws_values.specs.Values.{Value, i32_value, other, Instance, defined, Function, Store}
-use Rattle.wasm_laws_values.specs.Outcomes.{State, falls_through, leaves, out_of_steps, Answer, gives, fails, Primitives}
+use Rattle.wasm_laws_values.specs.Outcomes.{State, falls_through, leaves, out_of_steps, Answer, gives, fails, ends, Primitives}
 use Rattle.wasm_laws_values.specs.Fits.{InstanceFits, StoreFits}
 use Rattle.wasm_laws_soundness.specs.Interpreter.{does, invokes, run}
 use Rattle.wasm_laws_soundness.specs.Laws.{AreSound}
@@ -108,7 +108,14 @@ module _ {R : Type 0} where
   computed W _ B I vs S = fails
 
   abbrev pub small : World R → Primitives R
-  small W = record { computes = computed W; finds = λ x B I vs S. fails; acts = λ k vs S. fails; suits = λ B I S. true }
+  small W = record {
+    computes = computed W;
+    resumes = λ i B I vs S. ends fails;
+    finds = λ x B I vs S. fails;
+    acts = λ k vs S. fails;
+    describes = λ d v S. false;
+    suits = λ B I S. true;
+  }
 
 -- one type of functions, from a number to a number
 abbrev pub declared_there : ℕ → Option (Sub ℕ)

@@ -1,21 +1,23 @@
 -- What code does, by a definition that computes it. Steps count calls and further turns of loops.
 -- Core Specification 3.0, Execution, Instructions; and the legacy exception-handling proposal.
 use Rattle.std.specs.Prelude.{ℕ, zero, suc, Bool, not, ◌==◌, List, [], ◌∷◌, ◌++◌, length, slice_get, unwrap_or}
+use Rattle.wasm_operator_steps.specs.WasmSpecRules.WasmSpec.Syntax.{Ref}
 use Rattle.wasm_operator_steps.specs.WasmSpecRules.WasmSpec.MatchingTests.{World}
 use Rattle.wasm_operator_steps.specs.WasmSpecRules.Attempts.{◌>>=◌}
 use Rattle.wasm_operator_steps.specs.WasmSpecRules.Signatures.{Signature, resolve_ref}
 use Rattle.wasm_operators.specs.Control.{Block}
 use Rattle.wasm_operators.specs.Instructions.{Instruction}
+use Rattle.wasm_operators.specs.WasmOperatorsProposals.declared.continuations.Handle.{Handle}
 use Rattle.wasm_operators.specs.declared.control.Catch.{Catch}
 use Rattle.wasm_operators.specs.declared.control.Catch.TheVariants as catch
 use Rattle.wasm_operator_steps.specs.Bodies.{Surroundings}
 use Rattle.wasm_operator_steps.specs.Shapes.{shape_of}
 use Rattle.wasm_operator_steps.specs.Meanings.{resolve_block, block_signature}
 use Rattle.wasm_spec_instructions.specs.Code.{Opening, a_block, a_loop, an_if, a_try, a_try_table, a_catch, a_catch_all, Code, done, simply, enclosing, choosing_between, handling, delegating_to, Handlers, last_handler, catch_before}
-use Rattle.wasm_laws_values.specs.Values.{Value, i32_value, null, function_at, exception_at, Instance, Definition, defined, hosted, Function, Exception, signature_in, is_of}
-use Rattle.wasm_laws_values.specs.Outcomes.{State, branches, throws, calls_in_place, rethrows, delegates, returns, traps, out_of_steps, stuck, Outcome, falls_through, leaves, Primitives, with_top, on_some, on_number, on_one, on_exception, on_function, on_reference, pick, either, on_choice, on_set, holding, writing, next, pushing, answered, on_answer, label, again_from, handed, in_block, in_either, threw, catching, entered, back}
+use Rattle.wasm_laws_values.specs.Values.{Value, i32_value, null, function_at, exception_at, Instance, Definition, defined, hosted, Function, Exception, Store, signature_in, is_of}
+use Rattle.wasm_laws_values.specs.Outcomes.{State, branches, throws, calls_in_place, rethrows, delegates, returns, traps, out_of_steps, stuck, Outcome, falls_through, leaves, Resumed, ends, suspends, Primitives, with_top, on_some, on_number, on_one, on_exception, on_function, on_reference, pick, either, on_choice, on_set, holding, writing, next, pushing, with_store, answered, on_answer, label, again_from, handed, in_block, in_either, threw, catching, entered, back}
 use Rattle.wasm_laws_soundness.specs.Roles as role
-use Rattle.wasm_laws_soundness.specs.Roles.{Callee, by_index, by_reference, by_table, Role, role_of, operand_count}
+use Rattle.wasm_laws_soundness.specs.Roles.{Callee, by_index, by_reference, by_table, Role, role_of, handler_at, operand_count}
 
 -- what takes steps: code in a module, and the function at an address
 pub data Task (R : Type 0) : Type 0 where
@@ -25,6 +27,11 @@ pub data Task (R : Type 0) : Type 0 where
 -- the label that a table names for a number
 abbrev pub label_for : List ℕ → ℕ → ℕ → ℕ
 label_for ls l n = unwrap_or (slice_get ls n) l
+
+-- whether a reference is described by another one, and so is of a type; null is, where the type has it
+abbrev pub is_described : {R : Type 0} → Primitives R → Store R → Ref R → Value R → Value R → Bool
+is_described P S r d null = r.nullable
+is_described P S r d v = P.describes d v S
 
 module _ {R : Type 0} (W : World R) (P : Primitives R) where
   -- what code does, where bodies, further turns of a loop and functions called in place do this
@@ -79,6 +86,17 @@ module _ {R : Type 0} (W : World R) (P : Primitives R) where
       abbrev pub by_cast : (Bool → Bool) → ℕ → State R → List (Value R) → Value R → Bool → Outcome R
       by_cast sends l s below v b = either (sends b) (leaves (branches l (holding (below ++ v ∷ []) s))) (pushing below v s)
 
+      -- and one on whether it is described by another reference, which was taken
+      abbrev pub by_description : (Bool → Bool) → ℕ → Ref ℕ → State R → Value R → Outcome R
+      by_description sends l q s d =
+          with_top 1 s.operands
+          (λ below top. on_some (λ r. on_one (λ v. by_cast sends l s below v (is_described P s.store r d v)) top) (resolve_ref B.context.types q))
+
+      -- a continuation that ends, or is suspended: a handler's label takes what the tag takes, and a reference to the continuation
+      abbrev pub resumed : List Handle → List (Value R) → State R → Resumed R → Outcome R
+      resumed hs below s (ends r) = answered below s r
+      resumed hs below s (suspends k vs v T) = on_some (λ y. leaves (branches y.1 (holding (vs ++ v ∷ []) (with_store T s)))) (handler_at hs k)
+
       abbrev pub step_as : Role → Instruction ℕ → State R → Outcome R
       step_as role.computing i s =
           on_some (λ n. with_top n s.operands (λ below top. answered below s (P.computes i B I top s.store))) (operand_count W B (shape_of i))
@@ -119,6 +137,12 @@ module _ {R : Type 0} (W : World R) (P : Primitives R) where
       step_as (role.branching_on_failure l q) i s =
           with_top 1 s.operands
           (λ below top. on_some (λ r. on_one (λ v. by_cast not l s below v (is_of W s.store r v)) top) (resolve_ref B.context.types q))
+      step_as (role.branching_on_description l q) i s =
+          with_top 1 s.operands (λ below top. on_reference (leaves traps) (λ d. by_description (λ b. b) l q (holding below s) d) top)
+      step_as (role.branching_on_no_description l q) i s =
+          with_top 1 s.operands (λ below top. on_reference (leaves traps) (λ d. by_description not l q (holding below s) d) top)
+      step_as (role.resuming hs) i s =
+          on_some (λ n. with_top n s.operands (λ below top. resumed hs below s (P.resumes i B I top s.store))) (operand_count W B (shape_of i))
 
       abbrev pub step : Instruction ℕ → State R → Outcome R
       step i s = step_as (role_of i) i s

@@ -33,12 +33,22 @@ pub data Answer (R : Type 0) : Type 0 where
   raises : ℕ → Store R → Answer R
   fails : Answer R
 
--- What isn't said here: what plain instructions compute of their operands, which reference a table has at an address, what functions of the
--- host do, and a test that all else in a store is as the instance of a module wants it.
+-- what a continuation comes to that is resumed: it ends, as a plain instruction does; or it is suspended for the handler of this place in the
+-- list, with what its tag takes, and with a reference to what is left of it
+pub data Resumed (R : Type 0) : Type 0 where
+  ends : Answer R → Resumed R
+  suspends : ℕ → List (Value R) → Value R → Store R → Resumed R
+
+-- What isn't said here: what plain instructions compute of their operands, what continuations come to that are resumed, which reference a
+-- table has at an address, what functions of the host do, whether a reference is the descriptor of another one, and a test that all else in a
+-- store is as the instance of a module wants it. Code on one stack is followed, and so what it is resumed with is computed by `suspend` and
+-- `switch`.
 pub record Primitives (R : Type 0) : Type 0 where
   pub computes : Instruction ℕ → Surroundings R → Instance → List (Value R) → Store R → Answer R
+  pub resumes : Instruction ℕ → Surroundings R → Instance → List (Value R) → Store R → Resumed R
   pub finds : ℕ → Surroundings R → Instance → List (Value R) → Store R → Answer R
   pub acts : ℕ → List (Value R) → Store R → Answer R
+  pub describes : Value R → Value R → Store R → Bool
   pub suits : Surroundings R → Instance → Store R → Bool
 
 -- the first of two, where the number isn't zero
