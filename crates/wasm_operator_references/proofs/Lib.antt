@@ -5,6 +5,4 @@ pub mod Functional
 pub mod Giving
 pub mod Comparable
 pub mod Branching
-pub mod Continuing
-pub mod Handling
 pub mod Cited

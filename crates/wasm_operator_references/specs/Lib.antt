@@ -5,5 +5,3 @@ pub use Rattle.wasm_operator_control.specs.WasmOperators as WasmOperators
 pub use Rattle.wasm_operator_control.specs.WasmOperatorChecks as WasmOperatorChecks
 pub mod SeenReferences
 pub mod Written
-pub mod Continued
-pub mod Handled

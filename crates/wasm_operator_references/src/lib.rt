@@ -1,23 +1,17 @@
-//! Operators on references: null, functions, comparison, and branches on null; and operators on
-//! continuations.
+//! Operators on references: null, functions, comparison, and branches on null.
 #![tactic(auto)]
 
 mod branches;
 mod comparing;
-mod continuations;
-mod continued;
 mod functions;
 mod given;
-mod handlers;
 mod nulls;
 mod referenced;
-mod resuming;
 mod steps;
 mod written;
 
 pub use branches::{br_on_non_null, br_on_null};
 pub use comparing::{look_below, matches_abstract, ref_eq};
-pub use continuations::step_continuation;
 pub use functions::ref_func;
 pub use given::{exchange_with, front_types, last_type};
 pub use nulls::{ref_as_non_null, ref_is_null, ref_null};

@@ -1,18 +1,18 @@
 -- What atomic accesses take and give, and the types that they allow.
-use Rattle.std.specs.Prelude.{◌≡◌, Bool, true, false, not, ◌&&◌, if◌then◌else◌, List, [], ◌∷◌, ◌++◌, Result, Ok, Err}
+use Rattle.std.specs.Prelude.{ℕ, Bool, true, false, not, ◌&&◌, if◌then◌else◌, List, [], ◌∷◌, ◌++◌, Option}
 use Rattle.wasm_spec.specs.Syntax.{AbstractHeap, any_heap, eq_heap, abstract_heap, concrete, Val, i32, i64, Field}
 use Rattle.wasm_spec.specs.MatchingTests.{World}
 use Rattle.wasm_readers_types.specs.WasmReadersValues.declared.indices.UnpackedIndex.{UnpackedIndex}
+use Rattle.wasm_operator_checks.specs.WasmSpecRules.Contexts.{Context}
 use Rattle.wasm_operator_checks.specs.WasmOperatorSteps.Meanings.{ref_to, is_packed, unpack_field}
 use Rattle.wasm_operator_checks.specs.WasmOperatorSteps.Matching.{match_some}
 use Rattle.wasm_operator_checks.specs.WasmOperatorStacks.SeenTypeWords.{val_in}
 use Rattle.wasm_operator_checks.specs.WasmOperatorSteps.Access.{Access}
 use Rattle.wasm_operator_checks.specs.WasmOperatorSteps.Access.TheVariants as access
-use Rattle.wasm_operator_checks.specs.WasmOperatorSteps.SharedForm.{SharedForm}
-use Rattle.wasm_operator_checks.specs.WasmOperatorSteps.SharedForm.TheVariants as form
-use Rattle.wasm_operator_checks.specs.declared.faults.OperatorFault.{OperatorFault}
-use Rattle.wasm_operator_checks.specs.declared.faults.OperatorError.{OperatorError}
-use Rattle.wasm_operator_checks.specs.declared.faults.OperatorError.TheVariants.{Refused}
+use Rattle.wasm_operator_checks.specs.WasmOperatorSteps.Actions.{OperandTypes, these, element, field, gc, Check, has, reaches_type, each_matches_some, element_is_mutable, element_is_packed, field_is_mutable, field_is_packed}
+use Rattle.wasm_operator_checks.specs.WasmOperatorSteps.Shapes.{Shape, plain, one, nullable_to, allowed_types, where_written, where_given, access_taken, access_given}
+use Rattle.wasm_operator_checks.specs.DeclaredTypes.{element_in}
+use Rattle.wasm_operator_structs.specs.Fields.{field_in}
 use Rattle.wasm_operator_structs.specs.declared.shared_places.Address.{Address}
 use Rattle.wasm_operator_structs.specs.declared.shared_places.Address.TheVariants as address
 
@@ -44,21 +44,37 @@ abbrev pub given_seen : Access → Val UnpackedIndex → List (Val UnpackedIndex
 given_seen access.Set v = []
 given_seen _ v = v ∷ []
 
--- a refusal, and not for want of memory
-pub data IsRefused : Result (Unit {0}) OperatorError → Type 0 where
-  refused : (f : OperatorFault) → IsRefused (Err (Refused f))
+-- A member of a structure, or of an array where the flag says so: what is stored there, and what says where it is.
+abbrev pub member_in : Context UnpackedIndex → Bool → ℕ → ℕ → Option (Field UnpackedIndex)
+member_in C of_array n k = if of_array then element_in C n else field_in C n k
 
--- a member of a structure or of an array: what says where it is, and the forms of its accesses
 abbrev pub place_in : Bool → UnpackedIndex → List (Val UnpackedIndex)
 place_in of_array a = if of_array then ref_to true (concrete a) ∷ i32 ∷ [] else ref_to true (concrete a) ∷ []
 
-abbrev pub member_form : Bool → Access → SharedForm
-member_form true a = form.Element a
-member_form false a = form.Field a
+-- the same by their names
+abbrev pub stored_at : Bool → ℕ → ℕ → OperandTypes
+stored_at of_array n k = if of_array then element n else field n k
 
-abbrev pub packed_form : Bool → SharedForm
-packed_form true = form.PackedElement
-packed_form false = form.PackedField
+abbrev pub place_at : Bool → ℕ → OperandTypes
+place_at of_array n = if of_array then these (nullable_to n ∷ i32 ∷ []) else one (nullable_to n)
+
+-- that it is mutable, and whether it is packed
+abbrev pub mutable_at : Bool → ℕ → ℕ → Check
+mutable_at of_array n k = if of_array then element_is_mutable n else field_is_mutable n k
+
+abbrev pub packed_at : Bool → Bool → ℕ → ℕ → Check
+packed_at packed of_array n k = if of_array then element_is_packed packed n else field_is_packed packed n k
+
+-- an access to it, and one that gives it where it is packed
+abbrev pub member_shape : Bool → Access → ℕ → ℕ → Shape
+member_shape of_array a n k =
+    plain
+    (has gc ∷ reaches_type n ∷ each_matches_some (stored_at of_array n k) (allowed_types true a)
+    ∷ where_written a (mutable_at of_array n k ∷ []) ++ where_given a (packed_at false of_array n k ∷ []))
+    (access_taken a (place_at of_array n) (stored_at of_array n k)) (access_given a (stored_at of_array n k))
+
+abbrev pub packed_shape : Bool → ℕ → ℕ → Shape
+packed_shape of_array n k = plain (has gc ∷ reaches_type n ∷ packed_at true of_array n k ∷ []) (place_at of_array n) (stored_at of_array n k)
 
 -- what is stored isn't packed, where an access gives it, and is of a type that the access allows
 abbrev pub stores : World UnpackedIndex → Access → Field UnpackedIndex → Bool

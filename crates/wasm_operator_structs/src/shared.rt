@@ -1,18 +1,20 @@
 //! Atomic accesses to globals, tables, structures and arrays, and `pause`.
 
-ghost use Rattle.std.specs.Prelude.{◌≡◌, ◌∷◌, [], Bool, Some, slice_get, OnOk, OnErr, false, true};
-ghost use Rattle.wasm_operator_checks.specs.WasmOperatorSteps.Shapes.{sharing_shape, shared_shape};
-ghost use Rattle.wasm_operator_checks.specs.WasmOperatorStacks.Seen.{Kept};
-ghost use Rattle.wasm_operator_checks.specs.Steps.{Performs};
-ghost use Rattle.wasm_operator_checks.specs.WasmValidatorResources.Answers.{world};
+ghost use Rattle.std.specs.Prelude.{◌≡◌, [], Some, None, slice_get, IfOk, OnOk, OnErr, false, true};
 ghost use Rattle.wasm_readers_types.specs.SeenExterns.{global_of};
 ghost use Rattle.wasm_readers_types.specs.WasmReadersValues.SeenValues.{index_of, field_of};
+ghost use Rattle.wasm_operator_checks.specs.WasmOperatorSteps.Actions.{gc, has, reaches_type};
+ghost use Rattle.wasm_operator_checks.specs.WasmOperatorSteps.Shapes.{sharing_shape, shared_shape};
 ghost use Rattle.wasm_operator_checks.specs.WasmOperatorSteps.SharedForm.TheVariants.{Global, Table};
-ghost use Rattle.wasm_operator_structs.specs.Shared.{IsRefused, address_seen, place_in, member_form, packed_form, stores};
+ghost use Rattle.wasm_operator_checks.specs.WasmOperatorStacks.Seen.{Kept};
+ghost use Rattle.wasm_operator_checks.specs.WasmValidatorResources.Answers.{world};
+ghost use Rattle.wasm_operator_checks.specs.Steps.{Performs, held};
+ghost use Rattle.wasm_operator_checks.specs.DeclaredTypes.{Barred};
+ghost use Rattle.wasm_operator_structs.specs.Shared.{address_seen, place_in, member_in, member_shape, packed_shape, stores};
 
 use crate::elements::reach_element;
 use crate::reached::{Member, reach_member};
-use crate::shared_places::{Address, allows, exchange, writes};
+use crate::shared_places::{Address, allows, exchange, is_writable};
 use std::alloc::Allocator;
 use wasm_operator_checks::operator_stacks::{Stacks, TypeWord};
 use wasm_operator_checks::operator_steps::{
@@ -27,27 +29,18 @@ use wasm_operators_plain::NumberType;
 use wasm_operators_plain::readers_errors::WasmFeatures;
 use wasm_readers_types::{FieldType, GlobalType, ValType};
 
-/// The refusal by a rule, with the number that belongs to it.
-fn refused(rule: OperatorRule, number: u32) -> Result<(), OperatorError>
-    ensures { IsRefused result }
-{
-    Err(OperatorError::Refused(OperatorFault::at(rule, number)))
-}
-
 /// The rule that a global can be written, and the number that belongs to it.
-fn immutable(access: Access, code: u32, index: u32) -> Result<(), OperatorError>
-    ensures { IsRefused result }
-{
+fn immutable_global(access: Access, code: u32, index: u32) -> OperatorFault {
     match access {
-        Access::Get | Access::Set => refused(OperatorRule::ImmutableGlobal, index),
+        Access::Get | Access::Set => OperatorFault::at(OperatorRule::ImmutableGlobal, index),
         Access::Compute | Access::Exchange | Access::Compare => {
-            refused(OperatorRule::AtomicGlobal, code)
+            OperatorFault::at(OperatorRule::AtomicGlobal, code)
         }
     }
 }
 
 /// An access to a global that is there.
-#[tactic(auto, using(wasm_operator_checks::proofs::Acting::acts, wasm_operator_checks::proofs::Typing::types, crate::proofs::Structures::structures, crate::proofs::Sharing::sharing))]
+#[tactic(auto, using(crate::proofs::Sharing::sharing))]
 fn access_global<A: Allocator, T: WasmModuleResources>(
     stacks: &mut Stacks<A>,
     resources: &T,
@@ -61,15 +54,14 @@ fn access_global<A: Allocator, T: WasmModuleResources>(
         stacks.old stacks.new }
     ensures same { Kept stacks.old stacks.new }
 {
-    let index = values.index;
     if !reaches(stacks, ty.shared) {
-        return refused(OperatorRule::Shared, index);
+        return Err(OperatorError::Refused(OperatorFault::at(OperatorRule::Shared, values.index)));
     }
-    if writes(access) && !ty.mutable {
-        return immutable(access, code, index);
+    if !is_writable(access, ty.mutable) {
+        return Err(OperatorError::Refused(immutable_global(access, code, values.index)));
     }
     if !allows(resources, access, false, ty.content_type) {
-        return refused(OperatorRule::AtomicType, code);
+        return Err(OperatorError::Refused(OperatorFault::at(OperatorRule::AtomicType, code)));
     }
     exchange(
         stacks,
@@ -81,7 +73,7 @@ fn access_global<A: Allocator, T: WasmModuleResources>(
 }
 
 /// An access to an entry of a table.
-#[tactic(auto, using(wasm_operator_checks::proofs::Acting::acts, wasm_operator_checks::proofs::Typing::types, crate::proofs::Structures::structures, crate::proofs::Sharing::sharing))]
+#[tactic(auto, using(crate::proofs::Sharing::sharing))]
 fn access_table<A: Allocator, T: WasmModuleResources>(
     stacks: &mut Stacks<A>,
     resources: &T,
@@ -95,13 +87,13 @@ fn access_table<A: Allocator, T: WasmModuleResources>(
 {
     let index = values.index;
     let Some(ty) = resources.table_at(index) else {
-        return refused(OperatorRule::UnknownTable, index);
+        return Err(OperatorError::Refused(OperatorFault::at(OperatorRule::UnknownTable, index)));
     };
     if !reaches(stacks, ty.shared) {
-        return refused(OperatorRule::Shared, index);
+        return Err(OperatorError::Refused(OperatorFault::at(OperatorRule::Shared, index)));
     }
     if !allows(resources, access, true, ValType::Ref(ty.element_type)) {
-        return refused(OperatorRule::AtomicType, code);
+        return Err(OperatorError::Refused(OperatorFault::at(OperatorRule::AtomicType, code)));
     }
     exchange(
         stacks,
@@ -112,31 +104,82 @@ fn access_table<A: Allocator, T: WasmModuleResources>(
     )
 }
 
+/// The member that an access reaches: an element of an array, or a field of a structure.
+fn reach<A: Allocator, T: WasmModuleResources>(
+    stacks: &Stacks<A>,
+    resources: &T,
+    of_array: bool,
+    index: u32,
+    field_index: u32,
+) -> Result<Member, OperatorFault>
+    ensures identity { IfOk result (λ m. Some (index_of m.identity)
+        ≡ slice_get (T.context resources.now).types index) }
+    ensures member { IfOk result (λ m. member_in (T.context resources.now) of_array index field_index
+        ≡ Some (field_of m.ty)) }
+    ensures on { OnOk result (held stacks.now (T.context resources.now) (has gc) ≡ true) }
+    ensures reached { OnOk result
+        (held stacks.now (T.context resources.now) (reaches_type index) ≡ true) }
+    ensures barred { OnErr result (Barred stacks.now (T.context resources.now) gc index
+        (member_in (T.context resources.now) of_array index field_index ≡ None)) }
+{
+    if of_array {
+        reach_element(stacks, resources, index)
+    } else {
+        reach_member(stacks, resources, index, field_index)
+    }
+}
+
+/// The rule that a member can be written, and the number that belongs to it.
+fn immutable_member(of_array: bool, values: AccessValues) -> OperatorFault {
+    if of_array {
+        OperatorFault::at(OperatorRule::ImmutableArray, values.index)
+    } else {
+        OperatorFault::at(OperatorRule::ImmutableField, values.field_index)
+    }
+}
+
+/// The rule that what is given isn't packed, and the number that belongs to it.
+fn packed_member(of_array: bool, values: AccessValues) -> OperatorFault {
+    if of_array {
+        OperatorFault::at(OperatorRule::ArrayPacked, values.index)
+    } else {
+        OperatorFault::at(OperatorRule::FieldPacked, values.field_index)
+    }
+}
+
+/// The rule that what is given is packed, and the number that belongs to it.
+fn unpacked_member(of_array: bool, values: AccessValues) -> OperatorFault {
+    if of_array {
+        OperatorFault::at(OperatorRule::ArrayNotPacked, values.index)
+    } else {
+        OperatorFault::at(OperatorRule::FieldNotPacked, values.field_index)
+    }
+}
+
 /// The rule that what is stored isn't packed, which an access but one that only writes asks for, and
 /// that it is of a type that the access allows.
 fn check_stored<T: WasmModuleResources>(
     resources: &T,
     code: u32,
     access: Access,
-    packed: OperatorRule,
-    index: u32,
+    packed: OperatorFault,
     ty: FieldType,
-) -> Result<(), OperatorError>
+) -> Result<(), OperatorFault>
     ensures ok { OnOk result (stores (world (T.context resources.now)) access (field_of ty) ≡ true) }
-    ensures err { OnErr result (stores (world (T.context resources.now)) access (field_of ty) ≡ false) }
-    ensures refused { OnErr result (IsRefused result) }
+    ensures err { OnErr result (stores (world (T.context resources.now)) access (field_of ty)
+        ≡ false) }
 {
     if is_packed(ty.element_type) {
         match access {
-            Access::Get => return refused(packed, index),
+            Access::Get => return Err(packed),
             Access::Set => {}
             Access::Compute | Access::Exchange | Access::Compare => {
-                return refused(OperatorRule::AtomicType, code);
+                return Err(OperatorFault::at(OperatorRule::AtomicType, code));
             }
         }
     }
     if !allows(resources, access, true, unpack(ty.element_type)) {
-        return refused(OperatorRule::AtomicType, code);
+        return Err(OperatorFault::at(OperatorRule::AtomicType, code));
     }
     Ok(())
 }
@@ -154,7 +197,7 @@ fn address_in(of_array: bool, member: Member) -> Address
 }
 
 /// An access to a field of a structure, or to an element of an array.
-#[tactic(auto, using(wasm_operator_checks::proofs::Acting::acts, wasm_operator_checks::proofs::Typing::types, crate::proofs::Structures::structures, crate::proofs::Sharing::sharing))]
+#[tactic(auto, using(crate::proofs::Members::members))]
 fn access_member<A: Allocator, T: WasmModuleResources>(
     stacks: &mut Stacks<A>,
     resources: &T,
@@ -163,33 +206,25 @@ fn access_member<A: Allocator, T: WasmModuleResources>(
     of_array: bool,
     values: AccessValues,
 ) -> Result<(), OperatorError>
-    ensures took { Performs result (T.context resources.now) (sharing_shape [] (member_form of_array access) values)
-        stacks.old stacks.new }
+    ensures took { Performs result (T.context resources.now)
+        (member_shape of_array access values.index values.field_index) stacks.old stacks.new }
     ensures same { Kept stacks.old stacks.new }
 {
-    let member = if of_array {
-        reach_element(stacks, resources, values.index)?
-    } else {
-        reach_member(stacks, resources, values.index, values.field_index)?
-    };
-    if writes(access) && !member.ty.mutable {
-        return if of_array {
-            refused(OperatorRule::ImmutableArray, values.index)
-        } else {
-            refused(OperatorRule::ImmutableField, values.field_index)
-        };
+    let member = reach(
+        stacks,
+        resources,
+        of_array,
+        values.index,
+        values.field_index,
+    )?;
+    if !is_writable(access, member.ty.mutable) {
+        return Err(OperatorError::Refused(immutable_member(of_array, values)));
     }
-    let packed = if of_array {
-        OperatorRule::ArrayPacked
-    } else {
-        OperatorRule::FieldPacked
-    };
     check_stored(
         resources,
         code,
         access,
-        packed,
-        values.field_index,
+        packed_member(of_array, values),
         member.ty,
     )?;
     exchange(
@@ -202,28 +237,26 @@ fn access_member<A: Allocator, T: WasmModuleResources>(
 }
 
 /// Gives a packed field of a structure, or a packed element of an array.
-#[tactic(auto, using(wasm_operator_checks::proofs::Acting::acts, wasm_operator_checks::proofs::Typing::types, crate::proofs::Structures::structures, crate::proofs::Sharing::sharing))]
+#[tactic(auto, using(crate::proofs::Members::members))]
 fn get_packed<A: Allocator, T: WasmModuleResources>(
     stacks: &mut Stacks<A>,
     resources: &T,
     of_array: bool,
     values: AccessValues,
 ) -> Result<(), OperatorError>
-    ensures took { Performs result (T.context resources.now) (sharing_shape [] (packed_form of_array) values)
-        stacks.old stacks.new }
+    ensures took { Performs result (T.context resources.now)
+        (packed_shape of_array values.index values.field_index) stacks.old stacks.new }
     ensures same { Kept stacks.old stacks.new }
 {
-    let member = if of_array {
-        reach_element(stacks, resources, values.index)?
-    } else {
-        reach_member(stacks, resources, values.index, values.field_index)?
-    };
+    let member = reach(
+        stacks,
+        resources,
+        of_array,
+        values.index,
+        values.field_index,
+    )?;
     if !is_packed(member.ty.element_type) {
-        return if of_array {
-            refused(OperatorRule::ArrayNotPacked, values.index)
-        } else {
-            refused(OperatorRule::FieldNotPacked, values.field_index)
-        };
+        return Err(OperatorError::Refused(unpacked_member(of_array, values)));
     }
     exchange(
         stacks,
@@ -235,7 +268,7 @@ fn get_packed<A: Allocator, T: WasmModuleResources>(
 }
 
 /// An atomic access of this form, whose number is this one.
-#[tactic(auto, using(wasm_operator_checks::proofs::Acting::acts, wasm_operator_checks::proofs::Typing::types, crate::proofs::Structures::structures, crate::proofs::Sharing::sharing))]
+#[tactic(auto, using(wasm_operator_checks::proofs::Acting::acts, wasm_operator_checks::proofs::Typing::types, crate::proofs::Sharing::sharing))]
 fn step_by_access<A: Allocator, T: WasmModuleResources>(
     stacks: &mut Stacks<A>,
     resources: &T,
@@ -251,7 +284,10 @@ fn step_by_access<A: Allocator, T: WasmModuleResources>(
         SharedForm::Pause => plain(stacks, resources, Takes::None, ValTypes::None),
         SharedForm::Global(access) => match resources.global_at(values.index) {
             Some(ty) => access_global(stacks, resources, code, access, values, ty),
-            None => refused(OperatorRule::UnknownGlobal, values.index),
+            None => Err(OperatorError::Refused(OperatorFault::at(
+                OperatorRule::UnknownGlobal,
+                values.index,
+            ))),
         },
         SharedForm::Table(access) => access_table(stacks, resources, code, access, values),
         SharedForm::Field(access) => {

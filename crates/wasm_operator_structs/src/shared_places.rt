@@ -3,6 +3,7 @@
 ghost use Rattle.std.specs.Prelude.{◌≡◌, ◌∷◌, ◌++◌, [], true};
 ghost use Rattle.wasm_spec.specs.Syntax.{abstract_heap};
 ghost use Rattle.wasm_spec.specs.MatchingTests.{matches_val};
+ghost use Rattle.wasm_spec.specs.ValueTypes.{implies};
 ghost use Rattle.wasm_operator_checks.specs.WasmOperatorSteps.Meanings.{ref_to};
 ghost use Rattle.wasm_readers_types.specs.WasmReadersValues.SeenValues.{val_of, abstract_heap_of};
 ghost use Rattle.wasm_operator_checks.specs.WasmOperatorSteps.Matching.{match_some};
@@ -29,13 +30,20 @@ pub enum Address {
 }
 
 /// Whether the access writes.
-pub fn writes(access: Access) -> bool
+fn writes(access: Access) -> bool
     ensures { result ≡ is_writing access }
 {
     match access {
         Access::Get => false,
         Access::Set | Access::Compute | Access::Exchange | Access::Compare => true,
     }
+}
+
+/// Whether the access may reach what is mutable, or isn't: what is written is.
+pub fn is_writable(access: Access, mutable: bool) -> bool
+    ensures { result ≡ implies (is_writing access) mutable }
+{
+    !writes(access) || mutable
 }
 
 /// Whether a reference type is below this abstract heap type, or the shared one of its name.
@@ -56,6 +64,7 @@ fn is_below<T: WasmModuleResources>(
 
 /// Whether the access allows that what is stored is of this type: an integer, or a reference below
 /// `any`, or `eq` where it compares, or the shared ones of these.
+#[tactic(auto, using(crate::proofs::Allowing::allowing))]
 pub fn allows<T: WasmModuleResources>(
     resources: &T,
     access: Access,

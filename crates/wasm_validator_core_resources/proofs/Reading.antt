@@ -45,3 +45,7 @@ module _ {A : Type 0} (a : Inside A) (C : Context UnpackedIndex) (e : shown a �
   type_read id i types r n same when value =
       subst (λ ts. IsSome r ↔ (i < length ts) → IfSome r (λ t. t.now ≡ slice_index_or ts i t.now) → option_map (λ t. sub_of t.now) r ≡ (world C).declared (Id id)) (sym same)
       (λ s v. declared.type_read over_the_list (lookups_shown.shown over_the_list) refl is_sound id i r n s v ∙ ap (λ (D : Context UnpackedIndex). (world D).declared (Id id)) e) when value
+
+  -- and what is no id declares nothing
+  pub none_declared : (b : UnpackedIndex) → declared.IsNotId b → None ≡ (world C).declared b
+  none_declared b h = declared.none_declared over_the_list (lookups_shown.shown over_the_list) refl is_sound b h ∙ ap (λ (D : Context UnpackedIndex). (world D).declared b) e

@@ -15,7 +15,7 @@ use std::marker::Model;
 use std::rc::Rc;
 use wasm_readers_types::{
     CompositeInnerType, CoreTypeId, FuncType, GlobalType, HeapType, MemoryType, RefType, SubType,
-    TableType, ValType,
+    TableType, UnpackedIndex, ValType,
 };
 use wasm_validator_resources::WasmModuleResources;
 use wasm_validator_resources::readers_errors::Refusal;
@@ -96,6 +96,19 @@ impl<A: Allocator + Copy> CodeModule<A> {
         ensures { option_map (λ t. sub_of t.now) result ≡ (world self.now).declared (Id id) }
     {
         self.types.types().get(id.index())
+    }
+
+    /// What the type is that this stands for, if it stands for one.
+    #[inline]
+    fn type_for(&self, index: UnpackedIndex) -> Option<&SubType<A>>
+        ensures { option_map (λ t. sub_of t.now) result ≡ (world self.now).declared index }
+    {
+        // What is always true of the module is known from here on.
+        let _data_count = self.data_count;
+        match index {
+            UnpackedIndex::Id(id) => self.type_of(id),
+            UnpackedIndex::Module(_) | UnpackedIndex::RecGroup(_) => None,
+        }
     }
 
     /// The type of this type index, if there is one.
@@ -217,8 +230,8 @@ impl<A: Allocator + Copy> WasmModuleResources for ValidatorResources<A> {
     }
 
     #[inline]
-    fn sub_type_of_id(&self, id: CoreTypeId) -> Option<&SubType<A>> {
-        self.0.as_ref().type_of(id)
+    fn sub_type_of(&self, identity: UnpackedIndex) -> Option<&SubType<A>> {
+        self.0.as_ref().type_for(identity)
     }
 
     #[inline]

@@ -1,15 +1,15 @@
 -- Continuation types that operators name, and those that references are to.
 use Rattle.std.specs.Prelude.{ℕ, Bool, ◌&&◌, ◌==◌, List, length, Option, slice_get}
 use Rattle.std.specs.Option.{option_map}
-use Rattle.wasm_operator_references.specs.WasmSpec.Syntax.{Val, Sub}
-use Rattle.wasm_operator_references.specs.WasmSpec.ValueTypes.{implies}
-use Rattle.wasm_operator_references.specs.WasmSpecRules.Contexts.{Context}
-use Rattle.wasm_operator_references.specs.WasmSpecRules.Attempts.{◌>>=◌, guard, passes}
-use Rattle.wasm_operator_references.specs.WasmSpecRules.Signatures.{Signature, signature_of}
-use Rattle.wasm_operator_references.specs.WasmReadersTypes.WasmReadersValues.declared.indices.UnpackedIndex.{UnpackedIndex}
-use Rattle.wasm_operator_references.specs.WasmOperatorChecks.WasmOperatorSteps.Matching.{matches_vals}
-use Rattle.wasm_operator_references.specs.WasmOperatorChecks.WasmOperatorSteps.Meanings.{cont_of, referred, continuation_signature, continued_signature}
-use Rattle.wasm_operator_references.specs.WasmOperatorChecks.WasmValidatorResources.Answers.{world, sub_in, tag_in}
+use Rattle.wasm_operator_continuations.specs.WasmSpec.Syntax.{Val, Sub}
+use Rattle.wasm_operator_continuations.specs.WasmSpec.ValueTypes.{implies}
+use Rattle.wasm_operator_continuations.specs.WasmSpecRules.Contexts.{Context}
+use Rattle.wasm_operator_continuations.specs.WasmSpecRules.Attempts.{◌>>=◌, guard, passes, last_of}
+use Rattle.wasm_operator_continuations.specs.WasmSpecRules.Signatures.{Signature, signature_of}
+use Rattle.wasm_operator_continuations.specs.WasmReadersTypes.WasmReadersValues.declared.indices.UnpackedIndex.{UnpackedIndex}
+use Rattle.wasm_operator_continuations.specs.WasmOperatorChecks.WasmOperatorSteps.Matching.{matches_vals}
+use Rattle.wasm_operator_continuations.specs.WasmOperatorChecks.WasmOperatorSteps.Meanings.{cont_of, referred}
+use Rattle.wasm_operator_continuations.specs.WasmOperatorChecks.WasmValidatorResources.Answers.{world, sub_in, tag_in}
 
 -- the identity of the function type that a continuation type of a type index is of, from a shared function or from another
 unfoldable pub continuation_in : Context UnpackedIndex → Bool → ℕ → Option UnpackedIndex
@@ -23,12 +23,16 @@ type_named C i = (world C).declared i
 unfoldable pub function_named : Context UnpackedIndex → UnpackedIndex → Option (Signature UnpackedIndex)
 function_named C i = (world C).declared i >>= λ d. signature_of d.comp
 
--- the signature of the continuation that a value type refers to, and of that which the last of some types refers to
+-- the signature of the function type that the continuation type of an identity is of
+unfoldable pub continuation_named : Context UnpackedIndex → UnpackedIndex → Option (Signature UnpackedIndex)
+continuation_named C i = type_named C i >>= λ d. cont_of d.comp >>= function_named C
+
+-- that of the continuation that a value type refers to, and of the one that the last of some types refers to
 unfoldable pub continued_in : Context UnpackedIndex → Val UnpackedIndex → Option (Signature UnpackedIndex)
-continued_in C v = referred v >>= continuation_signature (world C)
+continued_in C v = referred v >>= continuation_named C
 
 unfoldable pub last_continued : Context UnpackedIndex → List (Val UnpackedIndex) → Option (Signature UnpackedIndex)
-last_continued C vs = continued_signature (world C) vs
+last_continued C vs = last_of vs >>= referred >>= continuation_named C
 
 -- the identity of a continuation type of a type index, and what its continuations take and give, from a shared function or from another
 unfoldable pub continued_at : Context UnpackedIndex → Bool → ℕ → Option (UnpackedIndex × Signature UnpackedIndex)

@@ -1,18 +1,17 @@
 //! Continuation types, and the functions that they are of.
 
-ghost use Rattle.std.specs.Prelude.{◌≡◌, Some, None, IfOk, OnErr, map};
+ghost use Rattle.std.specs.Prelude.{◌≡◌, false, Some, None, IfOk, OnErr};
 ghost use Rattle.std.specs.Option.{option_map};
-ghost use Rattle.wasm_operator_references.specs.WasmSpec.Syntax.{concrete};
-ghost use Rattle.wasm_operator_references.specs.WasmReadersTypes.WasmReadersValues.SeenValues.{val_of, index_of};
-ghost use Rattle.wasm_operator_references.specs.WasmReadersTypes.SeenTypes.{sub_of};
-ghost use Rattle.wasm_operator_references.specs.WasmOperatorChecks.WasmOperatorSteps.Meanings.{ref_to, cont_of};
-ghost use Rattle.wasm_operator_references.specs.WasmSpecRules.Signatures.{signature_of};
-ghost use Rattle.wasm_operator_references.specs.WasmOperatorChecks.WasmValidatorResources.Answers.{signature_seen};
-ghost use Rattle.wasm_operator_references.specs.WasmOperatorChecks.WasmOperatorStacks.SeenTypeWords.{val_in};
-ghost use Rattle.wasm_operator_references.specs.WasmOperatorChecks.SeenTypes.{types_seen};
-ghost use Rattle.wasm_operator_references.specs.Continued.{continuation_in, type_named, function_named, continued_in, last_continued};
+ghost use Rattle.wasm_operator_continuations.specs.WasmSpec.Syntax.{concrete};
+ghost use Rattle.wasm_operator_continuations.specs.WasmReadersTypes.WasmReadersValues.SeenValues.{val_of, index_of};
+ghost use Rattle.wasm_operator_continuations.specs.WasmReadersTypes.SeenTypes.{sub_of};
+ghost use Rattle.wasm_operator_continuations.specs.WasmOperatorChecks.WasmOperatorSteps.Meanings.{ref_to, cont_of};
+ghost use Rattle.wasm_operator_continuations.specs.WasmSpecRules.Signatures.{signature_of};
+ghost use Rattle.wasm_operator_continuations.specs.WasmOperatorChecks.WasmValidatorResources.Answers.{signature_seen};
+ghost use Rattle.wasm_operator_continuations.specs.WasmOperatorChecks.WasmOperatorStacks.SeenTypeWords.{val_in};
+ghost use Rattle.wasm_operator_continuations.specs.WasmOperatorChecks.SeenTypes.{types_seen};
+ghost use Rattle.wasm_operator_continuations.specs.Continued.{continuation_in, type_named, function_named, continuation_named, continued_in, last_continued};
 
-use crate::given::last_type;
 use std::alloc::Allocator;
 use wasm_operator_control::operator_checks::{OperatorFault, OperatorRule, ValTypes, reaches};
 use wasm_operator_control::operator_stacks::{Stacks, TypeWord};
@@ -20,6 +19,7 @@ use wasm_operator_control::readers_types::{
     CompositeInnerType, FuncType, PackedIndex, RefType, SubType, UnpackedIndex, ValType,
 };
 use wasm_operator_control::validator_resources::WasmModuleResources;
+use wasm_operator_references::last_type;
 
 /// The identity of the function type that the continuation type of this type index is of.
 ///
@@ -27,7 +27,7 @@ use wasm_operator_control::validator_resources::WasmModuleResources;
 ///
 /// Refuses an unknown type, one that isn't a continuation's, and one that isn't shared where the body
 /// is a shared function's.
-#[tactic(auto, using(crate::proofs::Continuing::continuations))]
+#[tactic(auto, using(crate::proofs::Continuing::reaches))]
 pub(crate) fn continuation_reached<A: Allocator, T: WasmModuleResources>(
     stacks: &Stacks<A>,
     resources: &T,
@@ -54,7 +54,7 @@ pub(crate) fn continuation_reached<A: Allocator, T: WasmModuleResources>(
 }
 
 /// The function type of this identity, if it is one.
-#[tactic(auto, using(crate::proofs::Continuing::continuations))]
+#[tactic(auto, using(crate::proofs::Continuing::types))]
 pub(crate) fn function_of<'a, T: WasmModuleResources>(
     resources: &'a T,
     identity: PackedIndex,
@@ -69,6 +69,7 @@ pub(crate) fn function_of<'a, T: WasmModuleResources>(
 }
 
 /// The type of this identity, if there is one.
+#[tactic(auto, using(crate::proofs::Continuing::types))]
 fn type_of<'a, T: WasmModuleResources>(
     resources: &'a T,
     identity: UnpackedIndex,
@@ -76,10 +77,7 @@ fn type_of<'a, T: WasmModuleResources>(
     ensures { option_map (λ t. sub_of t.now) result
         ≡ type_named (T.context resources.now) identity }
 {
-    match identity {
-        UnpackedIndex::Id(id) => resources.sub_type_of_id(id),
-        UnpackedIndex::Module(_) | UnpackedIndex::RecGroup(_) => None,
-    }
+    resources.sub_type_of(identity)
 }
 
 /// The function type that a type is, if it is one.
@@ -102,8 +100,26 @@ fn continuation_alone<A: Allocator>(ty: &SubType<A>) -> Option<PackedIndex>
     }
 }
 
+/// What the continuations of the type of this identity take and give, if it is a continuation type.
+#[tactic(auto, using(crate::proofs::Continuing::types))]
+fn continuation_of<'a, T: WasmModuleResources>(
+    resources: &'a T,
+    identity: UnpackedIndex,
+) -> Option<&'a FuncType<T::A>>
+    ensures { option_map (λ f. signature_seen f.now) result
+        ≡ continuation_named (T.context resources.now) identity }
+{
+    match type_of(resources, identity) {
+        Some(ty) => match continuation_alone(ty) {
+            Some(function) => function_of(resources, function),
+            None => None,
+        },
+        None => None,
+    }
+}
+
 /// What the continuation that a value type refers to takes and gives, if it refers to one.
-#[tactic(auto, using(crate::proofs::Continuing::continuations))]
+#[tactic(auto, using(crate::proofs::Continuing::referents))]
 pub(crate) fn continued_by<'a, T: WasmModuleResources>(
     resources: &'a T,
     ty: ValType,
@@ -111,16 +127,17 @@ pub(crate) fn continued_by<'a, T: WasmModuleResources>(
     ensures { option_map (λ f. signature_seen f.now) result
         ≡ continued_in (T.context resources.now) (val_of ty) }
 {
-    let ValType::Ref(reference) = ty else {
-        return None;
-    };
-    let identity = reference.type_index()?;
-    let function = continuation_alone(type_of(resources, identity)?)?;
-    function_of(resources, function)
+    match ty {
+        ValType::Ref(reference) => match reference.type_index() {
+            Some(identity) => continuation_of(resources, identity),
+            None => None,
+        },
+        ValType::I32 | ValType::I64 | ValType::F32 | ValType::F64 | ValType::V128 => None,
+    }
 }
 
 /// What the continuation that the last of some types refers to takes and gives, if it refers to one.
-#[tactic(auto, using(crate::proofs::Continuing::continuations))]
+#[tactic(auto, using(crate::proofs::Continuing::referents))]
 pub(crate) fn continued_last<'a, 'b, T: WasmModuleResources>(
     resources: &'a T,
     types: ValTypes<'b>,

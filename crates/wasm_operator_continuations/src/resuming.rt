@@ -1,15 +1,15 @@
 //! Operators that resume a continuation.
 
 ghost use Rattle.std.specs.Prelude.{◌≡◌, [], true, Some, None, IfOk, OnErr};
-ghost use Rattle.wasm_operator_references.specs.WasmReadersTypes.WasmReadersValues.SeenValues.{index_of};
-ghost use Rattle.wasm_operator_references.specs.WasmOperators.Continuations.{resume, resume_throw, resume_throw_ref};
-ghost use Rattle.wasm_operator_references.specs.WasmOperators.SeenContinuations.{handles_of};
-ghost use Rattle.wasm_operator_references.specs.WasmOperatorChecks.WasmOperatorSteps.Shapes.{continuing};
-ghost use Rattle.wasm_operator_references.specs.WasmOperatorChecks.WasmOperatorStacks.Seen.{Kept};
-ghost use Rattle.wasm_operator_references.specs.WasmOperatorChecks.WasmValidatorResources.Answers.{signature_seen};
-ghost use Rattle.wasm_operator_references.specs.WasmOperatorChecks.Steps.{Performs};
-ghost use Rattle.wasm_operator_references.specs.Continued.{continued_at};
-ghost use Rattle.wasm_operator_references.specs.Handled.{all_handled, resumed_at};
+ghost use Rattle.wasm_operator_continuations.specs.WasmReadersTypes.WasmReadersValues.SeenValues.{index_of};
+ghost use Rattle.wasm_operator_continuations.specs.WasmOperators.Continuations.{resume, resume_throw, resume_throw_ref};
+ghost use Rattle.wasm_operator_continuations.specs.WasmOperators.SeenContinuations.{handles_of};
+ghost use Rattle.wasm_operator_continuations.specs.WasmOperatorChecks.WasmOperatorSteps.Shapes.{continuing};
+ghost use Rattle.wasm_operator_continuations.specs.WasmOperatorChecks.WasmOperatorStacks.Seen.{Kept};
+ghost use Rattle.wasm_operator_continuations.specs.WasmOperatorChecks.WasmValidatorResources.Answers.{signature_seen};
+ghost use Rattle.wasm_operator_continuations.specs.WasmOperatorChecks.Steps.{Performs};
+ghost use Rattle.wasm_operator_continuations.specs.Continued.{continued_at};
+ghost use Rattle.wasm_operator_continuations.specs.Handled.{all_handled, resumed_at};
 
 use crate::continuations::{Continued, continued};
 use crate::handlers::{check_handlers, tag_type};
@@ -24,7 +24,7 @@ use wasm_operator_control::val_types_of;
 use wasm_operator_control::validator_resources::WasmModuleResources;
 
 /// The continuation type of this type index, where each handler suits it.
-#[tactic(auto, using(crate::proofs::Continuing::continues))]
+#[tactic(auto, using(crate::proofs::Handled::resumptions))]
 fn resumed<'a, 'b, A: Allocator, T: WasmModuleResources>(
     stacks: &Stacks<A>,
     resources: &'a T,
@@ -38,7 +38,10 @@ fn resumed<'a, 'b, A: Allocator, T: WasmModuleResources>(
     ensures err { OnErr result (resumed_at stacks.now (T.context resources.now)
         type_index (handles_of table.entry) ≡ None) }
 {
-    let found = continued(stacks, resources, type_index)?;
+    let found = match continued(stacks, resources, type_index) {
+        Ok(found) => found,
+        Err(fault) => return Err(fault),
+    };
     match check_handlers(stacks, resources, found.1.results(), table.handlers) {
         Ok(()) => Ok(found),
         Err(fault) => Err(fault),
@@ -46,7 +49,7 @@ fn resumed<'a, 'b, A: Allocator, T: WasmModuleResources>(
 }
 
 /// `resume`: takes a continuation with its arguments below, and gives its results.
-#[tactic(auto, using(crate::proofs::Continuing::continues))]
+#[tactic(auto, using(crate::proofs::Cited::acts, crate::proofs::Switching::steps))]
 pub(crate) fn resume<'a, A: Allocator, T: WasmModuleResources>(
     stacks: &mut Stacks<A>,
     resources: &T,
@@ -70,7 +73,7 @@ pub(crate) fn resume<'a, A: Allocator, T: WasmModuleResources>(
 }
 
 /// `resume_throw`: the same with what an exception of the tag holds in the place of the arguments.
-#[tactic(auto, using(crate::proofs::Continuing::continues))]
+#[tactic(auto, using(crate::proofs::Cited::acts, crate::proofs::Switching::steps))]
 pub(crate) fn resume_throw<'a, A: Allocator, T: WasmModuleResources>(
     stacks: &mut Stacks<A>,
     resources: &T,
@@ -82,10 +85,17 @@ pub(crate) fn resume_throw<'a, A: Allocator, T: WasmModuleResources>(
         (continuing [] (resume_throw type_index tag_index (handles_of table.entry))) stacks.old stacks.new }
     ensures same { Kept stacks.old stacks.new }
 {
-    let (identity, signature) = resumed(stacks, resources, type_index, table)?;
-    let thrown = tag_type(resources, tag_index)?;
+    let (identity, signature) = match resumed(stacks, resources, type_index, table) {
+        Ok(found) => found,
+        Err(fault) => return Err(OperatorError::Refused(fault)),
+    };
+    let thrown = match tag_type(resources, tag_index) {
+        Ok(thrown) => thrown,
+        Err(fault) => return Err(OperatorError::Refused(fault)),
+    };
     if !thrown.results().is_empty() {
-        Err(OperatorFault::at(OperatorRule::TagResults, tag_index))?;
+        let fault = OperatorFault::at(OperatorRule::TagResults, tag_index);
+        return Err(OperatorError::Refused(fault));
     }
     plain_with(
         stacks,
@@ -97,7 +107,7 @@ pub(crate) fn resume_throw<'a, A: Allocator, T: WasmModuleResources>(
 }
 
 /// `resume_throw_ref`: the same with a reference to an exception, or null.
-#[tactic(auto, using(crate::proofs::Continuing::continues))]
+#[tactic(auto, using(crate::proofs::Cited::acts, crate::proofs::Switching::steps))]
 pub(crate) fn resume_throw_ref<'a, A: Allocator, T: WasmModuleResources>(
     stacks: &mut Stacks<A>,
     resources: &T,
