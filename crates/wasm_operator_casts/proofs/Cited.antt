@@ -1,3 +1,2 @@
 -- What attributes here name of the crates below.
 pub use Rattle.wasm_operator_references.proofs.WasmOperatorChecks.Acting.{acts}
-pub use Rattle.wasm_operator_references.proofs.WasmOperatorChecks.Taking.{with_one}

@@ -1,18 +1,24 @@
 -- The descriptor that casts by descriptors ask for.
-use Rattle.std.specs.Prelude.{ℕ, Bool, true, ◌&&◌, Option, None}
+use Rattle.std.specs.Prelude.{◌≡◌, ℕ, Bool, true, ◌&&◌, List, ◌∷◌, Option, Some, None, Result, Ok, Err}
 use Rattle.std.specs.Option.{option_map}
 use Rattle.wasm_operator_references.specs.WasmSpec.Syntax.{Heap, abstract_heap, concrete, exact, Ref, Val, reference}
 use Rattle.wasm_operator_references.specs.WasmSpec.Features.{Features}
-use Rattle.wasm_operator_references.specs.WasmSpecRules.FeatureFlags.{features_of}
-use Rattle.wasm_operator_references.specs.WasmSpecRules.Signatures.{resolve_ref}
-use Rattle.wasm_operator_references.specs.WasmOperatorChecks.WasmOperatorSteps.Actions.{has, gc, allows, may_be_cast}
+use Rattle.wasm_operator_references.specs.WasmOperatorChecks.WasmOperatorSteps.Actions.{OperandTypes, descriptor_for, joined, Check, has, gc, custom_descriptors, descriptor_operators, allows, may_be_cast, Action, need, take}
 use Rattle.wasm_operator_references.specs.WasmOperatorChecks.WasmOperatorSteps.Meanings.{ref_to}
+use Rattle.wasm_operator_references.specs.WasmOperatorChecks.WasmOperatorStacks.Seen.{state_of}
+use Rattle.wasm_operator_references.specs.WasmOperatorChecks.WasmOperatorStacks.SeenTypeWords.{val_in}
 use Rattle.wasm_operator_references.specs.WasmOperatorChecks.WasmOperatorStacks.declared.stacks.Stacks.{Stacks}
-use Rattle.wasm_operator_references.specs.WasmOperatorChecks.Steps.{held}
+use Rattle.wasm_operator_references.specs.WasmOperatorChecks.WasmOperatorStacks.declared.type_word.TypeWord.{TypeWord}
+use Rattle.wasm_operator_references.specs.WasmOperatorChecks.Steps.{Took, acted, held}
+use Rattle.wasm_operator_references.specs.WasmOperatorChecks.declared.faults.OperatorFault.{OperatorFault}
+use Rattle.wasm_operator_references.specs.WasmOperatorChecks.declared.faults.OperatorError.TheVariants.{Refused}
 use Rattle.wasm_operator_references.specs.WasmSpecRules.Contexts.{Context}
+use Rattle.wasm_operator_references.specs.WasmReadersTypes.WasmReadersValues.SeenValues.{ref_of}
 use Rattle.wasm_operator_references.specs.WasmReadersTypes.WasmReadersValues.declared.indices.UnpackedIndex.{UnpackedIndex}
-use Rattle.wasm_operator_references.specs.WasmSpecRules.Attempts.{◌>>=◌, guard}
+use Rattle.wasm_operator_references.specs.WasmReadersTypes.WasmReadersValues.declared.values.RefType.{RefType}
+use Rattle.wasm_operator_references.specs.WasmSpecRules.Attempts.{◌>>=◌}
 use Rattle.wasm_operator_references.specs.WasmOperatorChecks.WasmValidatorResources.Answers.{sub_in}
+use Rattle.wasm_operator_casts.specs.Sent.{IsCastable}
 
 -- the one that the type of an index declares
 unfoldable pub descriptor_declared : Context UnpackedIndex → ℕ → Option UnpackedIndex
@@ -28,10 +34,21 @@ descriptor_named C (exact n) = option_map exact (descriptor_declared C n)
 abbrev pub serves_descriptors : Features → Bool
 serves_descriptors F = F.descriptor_operators && F.custom_descriptors
 
--- two written types of a branch on a cast by descriptors with identities, and the descriptor that it takes, where its checks on them hold
-unfoldable pub described_cast : {A : Type 0} → Stacks A → Context UnpackedIndex → Ref ℕ → Ref ℕ → Option (Ref UnpackedIndex × Ref UnpackedIndex × Val UnpackedIndex)
-described_cast v C r q =
-    guard (serves_descriptors (features_of v.features) && held v C (has gc) && held v C (allows (reference r)) && held v C (allows (reference q)) && held v C (may_be_cast r q)) tt
-    >>= λ u. resolve_ref C.types r
-    >>= λ a. resolve_ref C.types q
-    >>= λ b. option_map (λ d. (a, b, ref_to true d)) (descriptor_named C q.heap)
+-- two written types of a branch on a cast by descriptors, allowed, and the one may be cast to the other; with identities they are these, and
+-- this is the descriptor that it takes
+pub record IsDescribed {A : Type 0} (v : Stacks A) (C : Context UnpackedIndex) (r q : Ref ℕ) (a b : Ref UnpackedIndex) (d : Val UnpackedIndex) : Type 0 where
+  pub operators : held v C (has descriptor_operators) ≡ true
+  pub types : held v C (has custom_descriptors) ≡ true
+  pub castable : IsCastable v C r q a b
+  pub descriptor : Some d ≡ option_map (ref_to true) (descriptor_named C q.heap)
+
+-- The types with identities, and the descriptor; or what begins with its checks, and takes that descriptor above other operands, is refused.
+abbrev pub Described : {A : Type 0} → Result (RefType × RefType × TypeWord) OperatorFault → Stacks A → Context UnpackedIndex → Ref ℕ → Ref ℕ → Type 0
+Described (Ok p) v C r q = IsDescribed v C r q (ref_of p.0) (ref_of p.1) (val_in p.2)
+Described (Err f) v C r q =
+    (c : Check) (t : OperandTypes) (rest : List Action)
+    → Took (Err (Refused f))
+    (acted v C
+    (need (has descriptor_operators) ∷ need (has custom_descriptors) ∷ need (has gc) ∷ need (allows (reference r)) ∷ need (allows (reference q)) ∷ need (may_be_cast r q) ∷ need c
+    ∷ take (joined t (descriptor_for q.heap)) ∷ rest))
+    (state_of v) (state_of v)

@@ -1,6 +1,6 @@
 //! `ref.get_desc`, and casts and branches by descriptors (the proposal for custom descriptors).
 
-ghost use Rattle.std.specs.Prelude.{◌≡◌, true, false, Some, None, is_none, IfOk, OnErr};
+ghost use Rattle.std.specs.Prelude.{◌≡◌, true, false, is_none};
 ghost use Rattle.std.specs.Option.{option_map};
 ghost use Rattle.wasm_operator_references.specs.WasmSpec.Syntax.{concrete, exact, map_heap, map_ref};
 ghost use Rattle.wasm_operator_references.specs.WasmReadersTypes.WasmReadersValues.SeenValues.{heap_of, index_of, ref_of};
@@ -12,7 +12,7 @@ ghost use Rattle.wasm_operator_references.specs.WasmOperatorChecks.WasmValidator
 ghost use Rattle.wasm_operator_references.specs.WasmOperatorChecks.WasmOperatorStacks.Seen.{Kept};
 ghost use Rattle.wasm_operator_references.specs.WasmOperatorChecks.WasmOperatorStacks.SeenTypeWords.{val_in};
 ghost use Rattle.wasm_operator_references.specs.WasmOperatorChecks.Steps.{Performs};
-ghost use Rattle.wasm_operator_casts.specs.Described.{descriptor_declared, descriptor_named, serves_descriptors, described_cast};
+ghost use Rattle.wasm_operator_casts.specs.Described.{descriptor_declared, descriptor_named, serves_descriptors, Described};
 
 use crate::branches::{cast_types, difference};
 use crate::sends::send;
@@ -175,7 +175,7 @@ pub fn ref_cast_desc_eq<A: Allocator, T: WasmModuleResources>(
 /// Refuses it without the features that it needs (`OpcodeBehind`, `CustomDescriptors`); an unknown
 /// type, one that isn't shared where the body is a shared function's, one without a descriptor
 /// (`UndescribedType`), and an operand that is no reference to it.
-#[tactic(auto, using(crate::proofs::Cited::acts, crate::proofs::Describing::describes))]
+#[tactic(auto, using(crate::proofs::Cited::acts, crate::proofs::Describing::gets))]
 pub fn ref_get_desc<A: Allocator, T: WasmModuleResources>(
     stacks: &mut Stacks<A>,
     resources: &T,
@@ -208,17 +208,20 @@ pub fn ref_get_desc<A: Allocator, T: WasmModuleResources>(
         )));
     };
     let exactly = exact_or_null(described);
-    if check_type(stacks, resources, 0, exactly).is_ok() {
-        let given = TypeWord::reference(exact_to(descriptor));
-        return plain(stacks, resources, Takes::One(exactly), ValTypes::One(given));
+    match check_type(stacks, resources, 0, exactly) {
+        Ok(_) => plain(
+            stacks,
+            resources,
+            Takes::One(exactly),
+            ValTypes::One(TypeWord::reference(exact_to(descriptor))),
+        ),
+        Err(_) => plain(
+            stacks,
+            resources,
+            Takes::One(or_null(described)),
+            ValTypes::One(TypeWord::reference(RefType::concrete(false, descriptor))),
+        ),
     }
-    let given = TypeWord::reference(RefType::concrete(false, descriptor));
-    plain(
-        stacks,
-        resources,
-        Takes::One(or_null(described)),
-        ValTypes::One(given),
-    )
 }
 
 /// A reference to a value of exactly a type.
@@ -240,11 +243,8 @@ fn branch_types<A: Allocator, T: WasmModuleResources>(
 ) -> Result<(RefType, RefType, TypeWord), OperatorFault>
     requires from { IsWrittenHeap (ref_of from).heap }
     requires to { IsWrittenHeap (ref_of to).heap }
-    ensures ok { IfOk result (λ p. described_cast stacks.now (T.context resources.now)
-        (map_ref written_index (ref_of from)) (map_ref written_index (ref_of to))
-        ≡ Some (ref_of p.0, ref_of p.1, val_in p.2)) }
-    ensures err { OnErr result (described_cast stacks.now (T.context resources.now)
-        (map_ref written_index (ref_of from)) (map_ref written_index (ref_of to)) ≡ None) }
+    ensures { Described result stacks.now (T.context resources.now)
+        (map_ref written_index (ref_of from)) (map_ref written_index (ref_of to)) }
 {
     if let Some(fault) = not_served(stacks, number) {
         return Err(fault);
@@ -265,7 +265,7 @@ fn branch_types<A: Allocator, T: WasmModuleResources>(
 ///
 /// Refuses what `br_on_cast` refuses; a type without a descriptor, and a descriptor that isn't the
 /// type's.
-#[tactic(auto, using(crate::proofs::Cited::acts, crate::proofs::Sending::kept_on, crate::proofs::Describing::describes))]
+#[tactic(auto, using(crate::proofs::Cited::acts, crate::proofs::Sending::described_on))]
 pub fn br_on_cast_desc_eq<A: Allocator, T: WasmModuleResources>(
     stacks: &mut Stacks<A>,
     resources: &T,
@@ -295,7 +295,7 @@ pub fn br_on_cast_desc_eq<A: Allocator, T: WasmModuleResources>(
 ///
 /// Refuses what `br_on_cast_fail` refuses; a type without a descriptor, and a descriptor that isn't
 /// the type's.
-#[tactic(auto, using(crate::proofs::Cited::acts, crate::proofs::Sending::kept_on, crate::proofs::Describing::describes))]
+#[tactic(auto, using(crate::proofs::Cited::acts, crate::proofs::Sending::described_on))]
 pub fn br_on_cast_desc_eq_fail<A: Allocator, T: WasmModuleResources>(
     stacks: &mut Stacks<A>,
     resources: &T,

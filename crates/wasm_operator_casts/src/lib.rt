@@ -19,5 +19,6 @@ pub use descriptors::{
 pub use steps::{step_cast, step_conversion};
 pub use written::{is_written_cast, is_written_heap, is_written_reference};
 
-// Casts stand on the other operators on references, so who steps through casts finds these here.
-pub use wasm_operator_references::{step_continuation, step_reference};
+// Casts stand above the other operators on references, so who steps through casts finds these here.
+pub use wasm_operator_continuations::step_continuation;
+pub use wasm_operator_references::step_reference;

@@ -6,8 +6,9 @@ ghost use Rattle.wasm_operator_references.specs.WasmReadersTypes.WasmReadersValu
 ghost use Rattle.wasm_operator_references.specs.WasmOperatorChecks.WasmOperatorStacks.SeenTypeWords.{val_in};
 ghost use Rattle.wasm_operator_references.specs.WasmOperatorChecks.WasmOperatorSteps.Actions.{label};
 ghost use Rattle.wasm_operator_references.specs.WasmOperatorChecks.WasmValidatorResources.Answers.{world};
-ghost use Rattle.wasm_operator_references.specs.WasmOperatorChecks.WasmOperatorStacks.Seen.{Kept};
-ghost use Rattle.wasm_operator_references.specs.WasmOperatorChecks.Steps.{Turns, typed};
+ghost use Rattle.wasm_operator_references.specs.WasmOperatorChecks.WasmOperatorSteps.Machine.{pop_vals};
+ghost use Rattle.wasm_operator_references.specs.WasmOperatorChecks.WasmOperatorStacks.Seen.{state_of, Kept};
+ghost use Rattle.wasm_operator_references.specs.WasmOperatorChecks.Steps.{Checked, Turns, typed};
 ghost use Rattle.wasm_operator_references.specs.WasmOperatorChecks.SeenTypes.{exchanged, types_seen};
 ghost use Rattle.wasm_operator_casts.specs.Sent.{sending, list_in};
 
@@ -21,10 +22,29 @@ use wasm_operator_references::readers_types::{RefType, ValType};
 use wasm_operator_references::validator_resources::WasmModuleResources;
 use wasm_operator_references::{exchange_with, front_types, last_type};
 
+/// How many operands are taken by a descriptor on top, where one is asked for.
+///
+/// # Errors
+///
+/// Refuses what [`check_type`] refuses.
+fn check_above<A: Allocator, T: WasmModuleResources>(
+    stacks: &Stacks<A>,
+    resources: &T,
+    descriptor: Option<TypeWord>,
+) -> Result<usize, OperatorFault>
+    ensures { Checked result (pop_vals (world (T.context resources.now)) (list_in descriptor)
+        (state_of stacks.now)) (state_of stacks.now) }
+{
+    match descriptor {
+        Some(descriptor) => check_type(stacks, resources, 0, descriptor),
+        None => Ok(0),
+    }
+}
+
 /// Takes operands of some types with one of another type above them, and with a descriptor on top
 /// where one is asked for, and gives the same types with one of a third type on top. Where that
 /// can't be, all stays.
-#[tactic(auto, using(crate::proofs::Cited::acts, crate::proofs::Cited::with_one))]
+#[tactic(auto, using(crate::proofs::Cited::acts, crate::proofs::Exchanging::exchanges))]
 fn exchange_top<'a, A: Allocator, T: WasmModuleResources>(
     stacks: &mut Stacks<A>,
     resources: &T,
@@ -39,12 +59,9 @@ fn exchange_top<'a, A: Allocator, T: WasmModuleResources>(
         stacks.old stacks.new }
     ensures same { Kept stacks.old stacks.new }
 {
-    let above = match descriptor {
-        Some(descriptor) => match check_type(stacks, resources, 0, descriptor) {
-            Ok(above) => above,
-            Err(fault) => return Err(OperatorError::Refused(fault)),
-        },
-        None => 0,
+    let above = match check_above(stacks, resources, descriptor) {
+        Ok(above) => above,
+        Err(fault) => return Err(OperatorError::Refused(fault)),
     };
     let first = match check_type(stacks, resources, above, takes) {
         Ok(first) => first,

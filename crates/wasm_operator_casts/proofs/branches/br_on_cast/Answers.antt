@@ -3,7 +3,7 @@ use Rattle.wasm_operator_casts.proofs.branches.br_on_cast.Goals as goal
 
 pub returns-in-Ok-clause-took : goal.returns-in-Ok-clause-took
 returns-in-Ok-clause-took g c =
-    branched_on_cast _ _ _ _ _ _ _ _ _ _ _ c.send.ensures.took c.in-Ok.ensures c.difference.ensures
+    branched_on_cast _ _ _ _ _ _ _ _ _ _ _ c.send.ensures.took c.in-Ok.ensures c.difference-left.ensures
 
 pub returns-in-Err-clause-took : goal.returns-in-Err-clause-took
 returns-in-Err-clause-took g c =
