@@ -225,8 +225,8 @@ impl<'a, A: Allocator> WasmModuleResources for OwnModule<'a, A> {
         }
     }
 
-    fn sub_type_of_id(&self, id: CoreTypeId) -> Option<&SubType<A>> {
-        self.type_for(UnpackedIndex::Id(id))
+    fn sub_type_of(&self, identity: UnpackedIndex) -> Option<&SubType<A>> {
+        self.type_for(identity)
     }
 
     fn sub_type_at_id(&self, id: CoreTypeId) -> &SubType<A> {

@@ -1,5 +1,5 @@
 -- What is told of a validator that has failed.
-use Rattle.std.proofs.Common.{◌≡◌, ◌∙◌, ap, sym, subst, ℕ, List, Option, Some, None, Ok, Err, Result}
+use Rattle.std.proofs.Common.{◌≡◌, ◌∙◌, ap, sym, subst, ℕ, Bool, true, List, Option, Some, None, Ok, Err, Result}
 use Rattle.wasm_operators.specs.Instructions.{Instruction}
 use Rattle.wasm_readers.specs.WasmReadersErrors.Lifting.{lifting}
 use Rattle.wasm_readers.specs.WasmReadersErrors.Refusals.{plain}
@@ -10,6 +10,9 @@ use Rattle.wasm_readers.specs.WasmReadersErrors.declared.error.Fault.TheVariants
 use Rattle.wasm_readers.specs.WasmReadersErrors.declared.error.Refusal.{Refusal}
 use Rattle.wasm_readers.specs.WasmReadersErrors.WasmReadersFeatures.declared.operator_rules.OperatorRule.TheVariants as rule
 use Rattle.wasm_readers_types.specs.WasmReadersValues.declared.indices.UnpackedIndex.{UnpackedIndex}
+use Rattle.wasm_operator_blocks.specs.WasmOperatorChecks.WasmSpecRules.WasmSpec.Features.{Features}
+use Rattle.wasm_operator_blocks.specs.WasmOperatorChecks.WasmSpecRules.Attempts.{guard}
+use Rattle.wasm_operator_blocks.specs.WasmOperatorChecks.WasmOperatorSteps.Served.{serves, served}
 use Rattle.wasm_operator_blocks.specs.WasmOperatorChecks.Told.{is_operand, TellsRule, TellsError}
 use Rattle.wasm_operator_blocks.specs.WasmOperatorChecks.declared.faults.OperatorError.{OperatorError}
 use Rattle.wasm_operator_blocks.specs.WasmOperatorChecks.declared.faults.OperatorError.TheVariants.{Refused, OutOfMemory}
@@ -31,8 +34,9 @@ failure_told OutOfMemory offset r p t = absurd p
 pub no_failure : (x : Unit {0}) → IsFailure (Ok x) → ⊥
 no_failure x p = p
 
-pub reading_ended : (r : Result (Unit {0}) Error) (offset : ℕ) (o : Option (Instruction UnpackedIndex × List ℕ)) (i : Instruction UnpackedIndex × List ℕ) → o ≡ Some i → r ≡ failure_at offset → EndsReading r offset o
-reading_ended r offset o i e h = subst (λ x. EndsReading r offset x) (sym e) h
+pub reading_ended : (F : Features) (r : Result (Unit {0}) Error) (offset : ℕ) (o : Option (Instruction UnpackedIndex × List ℕ)) (i : Instruction UnpackedIndex × List ℕ)
+    → o ≡ Some i → serves F i.0 ≡ true → r ≡ failure_at offset → EndsReading r offset (served F o)
+reading_ended F r offset o i e s h = subst (λ x. EndsReading r offset x) (sym (ap (served F) e ∙ ap (λ (b : Bool). guard b i) s)) h
 
 pub not_read : (r : Refusal) (offset : ℕ) (o : Option (Instruction UnpackedIndex × List ℕ)) → o ≡ None → EndsReading (Err (error.Refused r)) offset o
 not_read r offset o e = subst (λ x. EndsReading (Err (error.Refused r)) offset x) (sym e) tt

@@ -1,3 +1,4 @@
+pub use Rattle.wasm_operator_arity.proofs as WasmOperatorArity
 pub mod Stepping
 pub mod Defining
 pub mod Beginning

@@ -1,14 +1,17 @@
 -- One step from bytes is reading, and the step of what was read.
-use Rattle.std.proofs.Common.{◌≡◌, ◌∙◌, refl, ap, subst, ℕ, List, Option, Some, None, Result, Ok, Err}
+use Rattle.std.proofs.Common.{◌≡◌, ◌∙◌, refl, sym, ap, subst, ℕ, List, Option, Some, None, Result, Ok, Err}
+use Rattle.wasm_operator_blocks.specs.WasmOperatorChecks.WasmSpecRules.Attempts.{◌>>=◌}
 use Rattle.wasm_operator_blocks.specs.WasmOperatorChecks.WasmSpecRules.Contexts.{Context}
 use Rattle.wasm_readers.specs.WasmReadersBytes.Reader.{rest}
 use Rattle.wasm_readers.specs.WasmReadersBytes.declared.binary_reader.BinaryReader.{BinaryReader}
 use Rattle.wasm_readers.specs.Written.{written}
+use Rattle.wasm_readers.specs.WasmReadersErrors.WasmReadersFeatures.declared.features.WasmFeatures.{WasmFeatures}
 use Rattle.wasm_readers.specs.WasmReadersErrors.declared.error.Error.{Error}
 use Rattle.wasm_readers.specs.WasmReadersErrors.declared.error.Error.TheVariants.{Refused, OutOfMemory}
 use Rattle.wasm_readers_types.specs.WasmReadersValues.declared.indices.UnpackedIndex.{UnpackedIndex}
 use Rattle.wasm_operators.specs.Instructions.{Instruction, instruction_at}
 use Rattle.wasm_operators.specs.Maps.{map_instruction}
+use Rattle.wasm_operator_blocks.specs.WasmOperatorChecks.WasmOperatorSteps.Served.{served}
 use Rattle.wasm_operator_blocks.specs.WasmOperatorChecks.WasmOperatorSteps.Machine.{State}
 use Rattle.wasm_operator_blocks.specs.WasmOperatorChecks.WasmOperatorSteps.Steps.{step_in}
 use Rattle.wasm_operator_blocks.specs.WasmOperatorChecks.WasmValidatorResources.Answers.{world, written_index}
@@ -18,7 +21,9 @@ use Rattle.wasm_operator_blocks.specs.WasmOperatorChecks.Steps.{Took}
 use Rattle.wasm_operator_blocks.specs.WasmOperatorChecks.Told.{TellsError}
 use Rattle.wasm_operator_blocks.specs.WasmOperatorChecks.declared.faults.OperatorError.{OperatorError}
 use Rattle.wasm_operator_blocks.specs.WasmOperatorChecks.declared.faults.OperatorError.TheVariants as operator
-use Rattle.wasm_operator_fast.specs.Fused.{step_at}
+use Rattle.wasm_operator_blocks.specs.WasmOperatorChecks.WasmSpecRules.FeatureFlags.{features_of}
+use Rattle.wasm_operator_fast.specs.Fused.{step_read, step_at}
+use Rattle.wasm_operator_arity.proofs.Serving.{takes_none}
 use Rattle.wasm_operator_validator.specs.Stepped.{Steps}
 use Rattle.wasm_operator_validator.specs.Reads.{ReadsStep, stepped}
 
@@ -26,9 +31,13 @@ module _ {A : Type 0} (C : Context UnpackedIndex) (v : Stacks A) (r : BinaryRead
   abbrev step_of : Instruction UnpackedIndex → Option (State UnpackedIndex)
   step_of i = step_in (world C) (around v C) (map_instruction written_index i) (state_of v)
 
-  pub unread : instruction_at written (rest r) ≡ None → stepped C v r ≡ None
+  unserved : (o : Option (Instruction UnpackedIndex × List ℕ)) → served (features_of v.features) o ≡ None → step_read (world C) (around v C) (state_of v) o ≡ None
+  unserved None e = refl
+  unserved (Some i) e = ap (λ (t : Option (State UnpackedIndex)). t >>= λ u. Some (u, i.1)) (takes_none (world C) (around v C) written_index i e (state_of v))
+
+  pub not_served : (features : WasmFeatures) → features ≡ v.features → served (features_of features) (instruction_at written (rest r)) ≡ None → stepped C v r ≡ None
   unfolding step_at
-  unread e = rw e refl
+  not_served features same e = unserved (instruction_at written (rest r)) (ap (λ (x : WasmFeatures). served (features_of x) (instruction_at written (rest r))) (sym same) ∙ e)
 
   refused : (i : Instruction UnpackedIndex) (more : List ℕ) → instruction_at written (rest r) ≡ Some (i, more) → step_of i ≡ None → stepped C v r ≡ None
   unfolding step_at

@@ -11,6 +11,9 @@ use Rattle.wasm_operators.specs.References.{Reference, ref_null, ref_is_null, re
 use Rattle.wasm_operators.specs.Instructions as instruction
 use Rattle.wasm_operators.specs.Instructions.{Instruction, instruction_at}
 use Rattle.wasm_operators.specs.Maps.{map_instruction}
+use Rattle.wasm_operator_blocks.specs.WasmOperatorChecks.WasmSpecRules.WasmSpec.Features.{Features}
+use Rattle.wasm_operator_blocks.specs.WasmOperatorChecks.WasmOperatorSteps.Served.{served}
+use Rattle.wasm_operator_arity.proofs.Serving.{served_renamed}
 use Rattle.wasm_readers_types.specs.WasmReadersValues.declared.indices.UnpackedIndex.{UnpackedIndex}
 use Rattle.wasm_operator_validator.specs.Stepped.{IsWrittenInstruction}
 use Rattle.wasm_operators.proofs.Renamings.{instruction-renames}
@@ -120,5 +123,6 @@ is_written bytes i more e = read_written (instruction_at (λ n. n) bytes) i more
 pub by_numbers : (bytes : List ℕ) (i : Instruction UnpackedIndex) (more : List ℕ) → instruction_at written bytes ≡ Some (i, more) → instruction_at (λ n. n) bytes ≡ Some (map_instruction written_index i, more)
 by_numbers bytes i more e = (instruction-renames written_index written bytes).is ∙ ap (option_map (λ x. (map_instruction written_index x.0, x.1))) e
 
-pub no_numbers : (bytes : List ℕ) → instruction_at written bytes ≡ None → instruction_at (λ n. n) bytes ≡ None
-no_numbers bytes e = (instruction-renames written_index written bytes).is ∙ ap (option_map (λ x. (map_instruction written_index x.0, x.1))) e
+-- and none where none is served
+pub none_served : (F : Features) (bytes : List ℕ) → served F (instruction_at written bytes) ≡ None → served F (instruction_at (λ n. n) bytes) ≡ None
+none_served F bytes e = ap (served F) (instruction-renames written_index written bytes).is ∙ served_renamed F written_index (instruction_at written bytes) e

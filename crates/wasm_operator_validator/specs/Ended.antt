@@ -24,7 +24,7 @@ abbrev pub IsRefusal : Result (Unit {0}) Error → Type 0
 IsRefusal (Err (error.Refused r)) = ⊤
 IsRefusal _ = ⊥
 
--- the refusal of the bytes where they begin with no instruction, and else that the validator failed
+-- the refusal of the bytes where they begin with no instruction that is served, and else that the validator failed
 abbrev pub EndsReading : Result (Unit {0}) Error → ℕ → Option (Instruction UnpackedIndex × List ℕ) → Type 0
 EndsReading r offset None = IsRefusal r
 EndsReading r offset (Some i) = r ≡ failure_at offset

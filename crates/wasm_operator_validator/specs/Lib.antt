@@ -1,3 +1,4 @@
+pub use Rattle.wasm_operator_arity.specs as WasmOperatorArity
 pub use Rattle.wasm_operator_blocks.specs.WasmOperatorChecks.WasmOperatorSteps as WasmOperatorSteps
 pub use Rattle.wasm_operator_blocks.specs.WasmOperatorChecks.WasmOperatorStacks as WasmOperatorStacks
 pub use Rattle.wasm_operator_blocks.specs.WasmOperatorChecks as WasmOperatorChecks

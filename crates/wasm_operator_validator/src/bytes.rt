@@ -4,6 +4,8 @@ ghost use Rattle.std.specs.Prelude.{◌≡◌, ◌≤◌, ◌<◌, ◌||◌, Som
 ghost use Rattle.wasm_readers.specs.Written.{written};
 ghost use Rattle.wasm_readers.specs.WasmReadersBytes.Reader.{SameInput, position_in, place_of_next, rest};
 ghost use Rattle.wasm_operators.specs.Instructions.{instruction_at};
+ghost use Rattle.wasm_operator_blocks.specs.WasmOperatorChecks.WasmSpecRules.FeatureFlags.{features_of};
+ghost use Rattle.wasm_operator_blocks.specs.WasmOperatorChecks.WasmOperatorSteps.Served.{served};
 ghost use Rattle.wasm_operator_blocks.specs.WasmOperatorChecks.WasmOperatorStacks.Seen.{state_of, Kept};
 ghost use Rattle.wasm_operator_validator.specs.Typed.{typed_state};
 ghost use Rattle.wasm_operator_validator.specs.Checked.{StandsIn};
@@ -180,8 +182,8 @@ impl<A: Allocator> OperatorValidator<A> {
     ///
     /// # Errors
     ///
-    /// Refuses bytes that aren't an operator, and at its offset an operator that isn't valid here;
-    /// and all once something was refused. Answers want of memory.
+    /// Refuses bytes that aren't an operator that the features serve, and at its offset an operator
+    /// that isn't valid here; and all once something was refused. Answers want of memory.
     #[cold]
     #[inline(never)]
     #[tactic(auto, using(crate::proofs::Ending::ends))]
@@ -194,7 +196,8 @@ impl<A: Allocator> OperatorValidator<A> {
             (stepped (T.context resources.now) self.old.stacks reader.old)
             (typed_state self.new) (rest reader.new) }
         ensures ended { self.old.failed ≡ true → EndsReading result (place_of_next reader.old)
-            (instruction_at written (rest reader.old))
+            (served (features_of self.old.stacks.features)
+            (instruction_at written (rest reader.old)))
             × (typed_state self.new ≡ typed_state self.old) }
         ensures input { SameInput reader.old reader.new }
         ensures onward { position_in reader.old ≤ position_in reader.new }
