@@ -1,13 +1,17 @@
 -- The typing of a constant expression, instruction by instruction.
 use Rattle.std.proofs.Common.{◌≡◌, ◌≤◌, ◌<◌, ◌∙◌, refl, sym, ap, ℕ, zero, suc, true, false, List, [], ◌++◌, length, Option, Some, None, arith}
+use Rattle.std.specs.Option.{option_and_then}
 use Rattle.wasm_spec.specs.MatchingTests.{World}
 use Rattle.wasm_operators.specs.Instructions.{Instruction, instruction_at}
 use Rattle.wasm_operator_validator.specs.WasmOperatorSteps.Bodies.{Surroundings}
 use Rattle.wasm_operator_validator.specs.WasmOperatorSteps.Machine.{State}
 use Rattle.wasm_operator_validator.specs.WasmOperatorSteps.Steps.{is_finished}
+use Rattle.wasm_operator_validator.specs.WasmOperatorSteps.Served.{served}
 use Rattle.wasm_validator_references.specs.WasmSpecValidity.Expressions.{functions_named}
 use Rattle.wasm_validator_references.specs.Notes.{noting}
 use Rattle.wasm_validator_references.proofs.Noting.{noting_more}
+use Rattle.wasm_operator_validator.proofs.WasmOperatorArity.Serving.{not_constant}
+use Rattle.wasm_validator_constants.proofs.Stepping.{no_constant}
 use Rattle.wasm_validator_constants.specs.Constants.{constant_step, typed_from, constant_from, named_from, constant_names}
 
 module _ {R : Type 0} (W : World R) (B : Surroundings R) (imported : ℕ) where
@@ -58,11 +62,17 @@ module _ {R : Type 0} (W : World R) (B : Surroundings R) (imported : ℕ) where
   refused_here zero s bytes more i all enough less open_ e d so_far = absurd (omega arith)
   refused_here (suc m) s bytes more i all enough less open_ e d so_far = sym so_far ∙ no_step m s bytes more i open_ e d
 
-  -- none that can be read
-  pub none_here : (most : ℕ) (s : State R) (bytes : List ℕ) (all : Option (State R × List ℕ))
-      → is_finished s ≡ false → instruction_at (λ n. n) bytes ≡ None → typed_from W B imported most s bytes ≡ all → all ≡ None
-  none_here zero s bytes all open_ e so_far = let none : typed_from W B imported zero s bytes ≡ None = rw open_ refl in sym so_far ∙ none
-  none_here (suc m) s bytes all open_ e so_far = let none : typed_from W B imported (suc m) s bytes ≡ None = rw (open_, e) refl in sym so_far ∙ none
+  -- none that can be read and is served
+  unserved_step : (most : ℕ) (s : State R) (o : Option (Instruction ℕ × List ℕ)) → served B.features o ≡ None → option_and_then (λ i. option_and_then (λ t. typed_from W B imported most t i.1) (constant_step W B imported i.0 s)) o ≡ None
+  unserved_step most s None e = refl
+  unserved_step most s (Some i) e = ap (option_and_then (λ t. typed_from W B imported most t i.1)) (no_constant W B imported i.0 s (not_constant W B i e))
+
+  pub unserved_here : (most : ℕ) (s : State R) (bytes : List ℕ) (all : Option (State R × List ℕ))
+      → is_finished s ≡ false → served B.features (instruction_at (λ n. n) bytes) ≡ None → typed_from W B imported most s bytes ≡ all → all ≡ None
+  unserved_here zero s bytes all open_ e so_far = let none : typed_from W B imported zero s bytes ≡ None = rw open_ refl in sym so_far ∙ none
+  unserved_here (suc m) s bytes all open_ e so_far =
+      let none : typed_from W B imported (suc m) s bytes ≡ None = rw open_ (unserved_step m s (instruction_at (λ n. n) bytes) e) in
+      sym so_far ∙ none
 
   -- the end
   pub end_here : (most : ℕ) (s : State R) (bytes : List ℕ) (all : Option (State R × List ℕ))

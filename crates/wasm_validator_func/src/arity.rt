@@ -29,14 +29,17 @@ impl<T: WasmModuleResources, A: Allocator> ModuleArity for FuncValidator<T, A> {
 
     fn func_type_of_cont_type(&self, cont_type: &ContType) -> Option<&FuncType<Self::A>> {
         match cont_type.0.as_core_type_id() {
-            Some(id) => func_type_of(self.resources.sub_type_at_id(id)),
+            Some(id) => match self.resources.sub_type_of(UnpackedIndex::Id(id)) {
+                Some(ty) => func_type_of(ty),
+                None => None,
+            },
             None => None,
         }
     }
 
     fn sub_type_of_ref_type(&self, ref_type: &RefType) -> Option<&SubType<Self::A>> {
         match ref_type.type_index() {
-            Some(UnpackedIndex::Id(id)) => Some(self.resources.sub_type_at_id(id)),
+            Some(UnpackedIndex::Id(id)) => self.resources.sub_type_of(UnpackedIndex::Id(id)),
             _ => None,
         }
     }

@@ -1,22 +1,27 @@
-use Rattle.std.proofs.Common.{◌≡◌, ◌<◌, ap, subst, ℕ, List, Some, None, false, length, arith, rules}
+use Rattle.std.proofs.Common.{◌≡◌, ◌<◌, ◌∙◌, sym, ap, subst, ℕ, List, Some, None, false, length, arith, rules}
 use Rattle.wasm_readers.specs.WasmReadersBytes.Reader.{position_in, rest}
+use Rattle.wasm_readers.specs.Written.{written}
+use Rattle.wasm_readers.specs.WasmReadersErrors.WasmReadersFeatures.declared.features.WasmFeatures.{WasmFeatures}
+use Rattle.wasm_operators.specs.Instructions.{instruction_at}
 use Rattle.wasm_operators.specs.Maps.{map_instruction}
 use Rattle.wasm_operators.specs.SeenOperators.{operator_of}
 use Rattle.wasm_operators.proofs.Skipping.{shorter}
+use Rattle.wasm_operator_validator.specs.WasmOperatorSteps.WasmSpecRules.FeatureFlags.{features_of}
+use Rattle.wasm_operator_validator.specs.WasmOperatorSteps.Served.{served}
 use Rattle.wasm_operator_validator.specs.WasmOperatorSteps.Steps.{is_finished}
 use Rattle.wasm_validator_resources.specs.Answers.{world, written_index}
 use Rattle.wasm_operator_validator.specs.Typed.{typed_state}
 use Rattle.wasm_validator_references.specs.Notes.{noting}
 use Rattle.wasm_validator_constants.specs.Constants.{constant_step, constant_from, constant_names}
 use Rattle.wasm_operator_validator.specs.Checked.{within}
-use Rattle.wasm_operator_validator.proofs.Written.{is_written, by_numbers, no_numbers}
-use Rattle.wasm_validator_constants.proofs.Machine.{go_one, refused_here, none_here, names_of_all, all_of}
+use Rattle.wasm_operator_validator.proofs.Written.{is_written, by_numbers, none_served}
+use Rattle.wasm_validator_constants.proofs.Machine.{go_one, refused_here, unserved_here, names_of_all, all_of}
 use Rattle.wasm_operator_validator.proofs.Kept.{kept_around, kept_on, same_kept, ends}
 use Rattle.wasm_validator_constants.proofs.expressions.check_constant_expression.Goals as goal
 
 pub check_constant_operator-requires-clause-written : goal.check_constant_operator-requires-clause-written
 check_constant_operator-requires-clause-written g c =
-    is_written (rest c.operators.reader) (operator_of c.in-Ok.op) (rest c.read_operator.new.reader) c.in-Ok.ensures.ok
+    is_written (rest c.operators.reader) (operator_of c.in-Ok.op) (rest c.read_served.new.reader) c.in-Ok.ensures.ok
 
 pub operators-init : goal.operators-init
 operators-init g c =
@@ -42,8 +47,10 @@ returns-in-Err-clause-took g c =
     let w = c.operators.validator in
     let far = c.operators.invariant.so_far in
     let going : is_finished (typed_state w) ≡ false = cc in
-    none_here (world C) (within v C) c.args.imported_globals far.0 (typed_state w) (rest c.operators.reader) (constant_from (world C) (within v C) c.args.imported_globals (typed_state v) (rest c.args.reader.now))
-    going (no_numbers (rest c.operators.reader) c.in-Err.ensures.err) far.2
+    let features = c.features.ensures ∙ c.operators.invariant.kept.features in
+    let unserved = ap (λ (x : WasmFeatures). served (features_of x) (instruction_at written (rest c.operators.reader))) (sym features) ∙ c.in-Err.ensures.err in
+    unserved_here (world C) (within v C) c.args.imported_globals far.0 (typed_state w) (rest c.operators.reader) (constant_from (world C) (within v C) c.args.imported_globals (typed_state v) (rest c.args.reader.now))
+    going (none_served (features_of v.stacks.features) (rest c.operators.reader) unserved) far.2
 
 pub operators-preserved : goal.operators-preserved
 operators-preserved g c =
@@ -52,7 +59,7 @@ operators-preserved g c =
     let w = c.operators.validator in
     let u = c.check_constant_operator.new.validator in
     let old = c.operators.reader in
-    let new = c.read_operator.new.reader in
+    let new = c.read_served.new.reader in
     let n = c.args.imported_globals in
     let far = c.operators.invariant.so_far in
     let i = map_instruction written_index (operator_of c.in-Ok.op) in
@@ -80,7 +87,7 @@ returns-in-Err-check_constant_operator-clause-took g c =
     let w = c.operators.validator in
     let u = c.check_constant_operator.new.validator in
     let old = c.operators.reader in
-    let new = c.read_operator.new.reader in
+    let new = c.read_served.new.reader in
     let n = c.args.imported_globals in
     let far = c.operators.invariant.so_far in
     let i = map_instruction written_index (operator_of c.in-Ok.op) in
