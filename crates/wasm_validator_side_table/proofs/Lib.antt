@@ -7,3 +7,5 @@ pub mod Fasting
 pub mod Reading
 pub mod Looping
 pub mod Whole
+pub mod Handling
+pub mod Resuming

@@ -18,11 +18,11 @@ use Rattle.wasm_validator_side_table.specs.Shown.{instruction_of, placed, nested
 
 -- a list that is given item by item
 module _ {V : Type 0} where
-  front_given : (xs after : List V) (x : V) → GivesFront xs (Some x) after → xs ≡ x ∷ after
+  pub front_given : (xs after : List V) (x : V) → GivesFront xs (Some x) after → xs ≡ x ∷ after
   front_given [] after x h = cc
   front_given (y ∷ xs) after x h = let e : y ≡ x = cc in let f : xs ≡ after = cc in rw (e, f) refl
 
-  none_left : (xs after : List V) → GivesFront xs None after → xs ≡ []
+  pub none_left : (xs after : List V) → GivesFront xs None after → xs ≡ []
   none_left [] after h = refl
   none_left (x ∷ xs) after h = cc
 

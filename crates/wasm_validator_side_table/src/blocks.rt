@@ -1,22 +1,12 @@
 //! Blocks that open, turn and close.
 
-ghost use Rattle.std.specs.Prelude.{◌≡◌, if◌then◌else◌, slice_set, IfSome, OnOk, Some};
+ghost use Rattle.std.specs.Prelude.{◌≡◌, if◌then◌else◌, IfSome, OnOk, Some};
 ghost use Rattle.wasm_spec_side_tables.specs.SideTables.{opens, opens_loop, turns, closes};
 ghost use Rattle.wasm_validator_side_table.specs.Shown.{shown, place_in, nested_in};
 
-use crate::counts::narrow;
 use crate::table::SideTable;
 use std::alloc::{AllocError, Allocator};
-use wasm_spec_side_tables::{OpenBlock, Place};
-
-/// Fills in the place of a number, if there is such a place.
-fn fill<A: Allocator>(places: &mut Vec<Place, A>, number: u32, place: Place)
-    ensures { places.new.items ≡ slice_set places.old.items number place }
-{
-    if (number as usize) < places.len() {
-        places[number as usize] = place;
-    }
-}
+use wasm_spec_side_tables::{OpenBlock, Place, fill, narrow};
 
 impl<A: Allocator> SideTable<A> {
     /// The place behind an instruction.

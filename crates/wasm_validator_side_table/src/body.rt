@@ -12,12 +12,11 @@ ghost use Rattle.wasm_operator_validator.specs.Reads.{ReadsStep, stepped};
 ghost use Rattle.wasm_validator_func.specs.Bodies.{instructions_from};
 ghost use Rattle.wasm_validator_func.specs.Functions.{IsFunctionBody};
 ghost use Rattle.wasm_validator_func.specs.Validated.{body_in, Validates};
-ghost use Rattle.wasm_spec_side_tables.specs.Building.{resolved, resolved_each};
+ghost use Rattle.wasm_spec_side_tables.specs.Building.{resolved_each};
 ghost use Rattle.wasm_validator_side_table.specs.Answers.{Makes, StandsSo};
 ghost use Rattle.wasm_validator_side_table.specs.Shown.{shown};
 ghost use Rattle.wasm_validator_side_table.specs.Tables.{Advances, Reaches, HasRead, IsTableOf, IsEmptyTable};
 
-use crate::counts::narrow_offset;
 use crate::error::{SideTableError, of_validator};
 use crate::fast::read_quiet;
 use crate::frequent::Taken;
@@ -26,23 +25,9 @@ use std::alloc::Allocator;
 use wasm_parser::FunctionBody;
 use wasm_readers::BinaryReader;
 use wasm_readers_errors::{Error, Fault, OperatorRule, Refusal};
-use wasm_spec_side_tables::{Entry, Place};
+use wasm_spec_side_tables::{narrow_offset, resolve};
 use wasm_validator_func::{FuncToValidate, FuncValidator, FuncValidatorAllocations, read_served};
 use wasm_validator_resources::WasmModuleResources;
-
-/// An entry with the place of its number.
-fn resolve(places: &[Place], entry: Entry) -> Option<Entry>
-    ensures { result ≡ resolved places.now entry }
-{
-    let place = places.get(entry.target as usize)?;
-    Some(Entry {
-        at: entry.at,
-        target: place.offset,
-        next: place.next,
-        kept: entry.kept,
-        dropped: entry.dropped,
-    })
-}
 
 /// The refusal of bytes behind the end of a body, at the first of them.
 fn behind_end(offset: u64) -> Error

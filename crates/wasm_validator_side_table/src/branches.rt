@@ -11,11 +11,11 @@ ghost use Rattle.wasm_operator_validator.specs.Typed.{typed_state};
 ghost use Rattle.wasm_spec_side_tables.specs.SideTables.{to_label, past_then, catching_to, catch_label};
 ghost use Rattle.wasm_validator_side_table.specs.Shown.{shown, planned_one, planned_in};
 
-use crate::counts::{label_counts, narrow};
+use crate::counts::label_counts;
 use crate::table::SideTable;
 use std::alloc::{AllocError, Allocator};
 use wasm_operators::{BlockType, BrTable, Catch, Listed, TryTable};
-use wasm_spec_side_tables::Entry;
+use wasm_spec_side_tables::{Entry, label_of, make_entry, narrow};
 use wasm_validator_func::{FuncValidator, block_arity};
 use wasm_validator_resources::WasmModuleResources;
 
@@ -30,39 +30,6 @@ pub(crate) fn count_operands<T: WasmModuleResources, B: Allocator>(
         return None;
     }
     Some(count)
-}
-
-/// An entry whose target is the number of its place.
-pub(crate) fn entry(at: u32, number: u32, kept: usize, dropped: usize) -> Option<Entry>
-    ensures { IfSome result (λ e. e ≡ record {
-      at = at;
-      target = number;
-      next = 0;
-      kept = kept;
-      dropped = dropped;
-    }) }
-{
-    let kept = narrow(kept)?;
-    let dropped = narrow(dropped)?;
-    Some(Entry {
-        at,
-        target: number,
-        next: 0,
-        kept,
-        dropped,
-    })
-}
-
-/// The label that a clause catches to.
-fn label_of(clause: Catch) -> u32
-    ensures { result ≡ catch_label clause }
-{
-    match clause {
-        Catch::One { tag: _, label } => label,
-        Catch::OneRef { tag: _, label } => label,
-        Catch::All { label } => label,
-        Catch::AllRef { label } => label,
-    }
 }
 
 impl<A: Allocator> SideTable<A> {
@@ -84,7 +51,7 @@ impl<A: Allocator> SideTable<A> {
             .saturating_sub(taken as usize)
             .saturating_sub(kept)
             .saturating_sub(height);
-        entry(at, block.label, kept, dropped)
+        make_entry(at, block.label, kept, dropped)
     }
 
     /// The entry of a `try_table` whose block takes so many operands, where it catches to a label.
@@ -104,7 +71,7 @@ impl<A: Allocator> SideTable<A> {
         let (takes, _) = block_arity(validator.resources(), ty)?;
         let operands = count_operands(validator)? as usize;
         let dropped = operands.saturating_sub(takes).saturating_sub(height);
-        entry(at, block.label, kept, dropped)
+        make_entry(at, block.label, kept, dropped)
     }
 
     /// The entry of an `if` of this block type.
@@ -120,7 +87,7 @@ impl<A: Allocator> SideTable<A> {
     {
         let (takes, _) = block_arity(validator.resources(), ty)?;
         let number = narrow(self.places.len())?.checked_add(1)?;
-        entry(at, number, takes, 0)
+        make_entry(at, number, takes, 0)
     }
 
     /// Notes a branch to a label, once so many operands were taken that it isn't given.

@@ -11,11 +11,10 @@ ghost use Rattle.wasm_validator_side_table.specs.Shown.{shown, nested_in};
 ghost use Rattle.wasm_validator_side_table.specs.Tables.{Advances};
 ghost use Rattle.wasm_validator_side_table.specs.Fast.{Foresees, with_noted, nesting_of};
 
-use crate::counts::{narrow, narrow_offset};
 use crate::table::SideTable;
 use std::alloc::Allocator;
 use wasm_readers::BinaryReader;
-use wasm_spec_side_tables::Entry;
+use wasm_spec_side_tables::{Entry, narrow, narrow_offset};
 use wasm_validator_func::FuncValidator;
 use wasm_validator_resources::WasmModuleResources;
 

@@ -1,19 +1,20 @@
 //! Handlers of operators that resume continuations, which are noted.
 
-ghost use Rattle.std.specs.Prelude.{◌≡◌, [], ◌∷◌, OnOk, Some, IfSome};
+ghost use Rattle.std.specs.Prelude.{◌≡◌, ℕ, [], ◌∷◌, OnOk, Some, IfSome};
 ghost use Rattle.wasm_operators.specs.Continuations.{handle_at};
-ghost use Rattle.wasm_operators.specs.SeenContinuations.{continuation_of};
+ghost use Rattle.wasm_operators.specs.SeenContinuations.{continuation_of, handles_of};
 ghost use Rattle.wasm_operators.specs.SeenLists.{listed};
-ghost use Rattle.wasm_spec_side_tables.specs.SideTables.{continuation_branches, handle_branches};
-ghost use Rattle.wasm_validator_side_table.specs.Shown.{shown, planned_in};
+ghost use Rattle.wasm_operator_steps.specs.Actions.{OperandTypes};
+ghost use Rattle.wasm_spec_side_tables.specs.SideTables.{handling_to, continuation_branches, handle_branches};
+ghost use Rattle.wasm_validator_side_table.specs.Shown.{shown, planned_one, planned_in};
+ghost use Rattle.wasm_validator_side_table.specs.Taken.{AreSoMany, AreTaken};
 
-use crate::branches::{count_operands, entry};
+use crate::branches::count_operands;
 use crate::counts::label_counts;
-use crate::error::SideTableError;
 use crate::table::SideTable;
-use std::alloc::Allocator;
-use wasm_operators::{ContinuationOperator, Handle, Listed, Operator};
-use wasm_spec_side_tables::Entry;
+use std::alloc::{AllocError, Allocator};
+use wasm_operators::{ContinuationOperator, Handle, Operator, ResumeTable};
+use wasm_spec_side_tables::{Entry, make_entry};
 use wasm_validator_func::FuncValidator;
 use wasm_validator_func::operator_validator::operator_arity;
 use wasm_validator_resources::WasmModuleResources;
@@ -26,70 +27,115 @@ impl<A: Allocator> SideTable<A> {
         at: u32,
         taken: u32,
         label: u32,
-    ) -> Option<Entry> {
+    ) -> Option<Entry>
+        ensures { IfSome result (λ e. (t : OperandTypes)
+            → AreSoMany (T.context validator.now.resources) validator.now.validator t taken
+            → planned_one (T.context validator.now.resources) validator.now.validator at
+            (handling_to t label) (shown self.now) ≡ Some e) }
+    {
         let block = self.blocks.get(label as usize)?;
         let (kept, height) = label_counts(validator, label)?;
         let operands = count_operands(validator)? as usize;
         let dropped = operands
             .saturating_sub(taken as usize)
             .saturating_sub(height);
-        entry(at, block.label, kept, dropped)
+        make_entry(at, block.label, kept, dropped)
+    }
+
+    /// Notes where a handler branches to, once so many operands were taken.
+    #[tactic(auto, using(crate::proofs::Handling::handlers))]
+    fn branch_by_handler<T: WasmModuleResources, B: Allocator>(
+        &mut self,
+        validator: &FuncValidator<T, B>,
+        at: u32,
+        taken: u32,
+        handler: Handle,
+    ) -> Result<(), AllocError>
+        ensures planned { OnOk result ((t : OperandTypes)
+            → AreSoMany (T.context validator.now.resources) validator.now.validator t taken
+            → planned_in (T.context validator.now.resources) validator.now.validator at
+            (handle_branches t (handler ∷ [])) (shown self.old) ≡ Some (shown self.new)) }
+        ensures operands { OnOk result (self.new.operands ≡ self.old.operands) }
+    {
+        match handler {
+            Handle::OnLabel { tag: _, label } => {
+                match self.handler_entry(validator, at, taken, label) {
+                    Some(entry) => self.add(entry),
+                    None => Err(AllocError),
+                }
+            }
+            Handle::OnSwitch { tag: _ } => Ok(()),
+        }
     }
 
     /// Notes where handlers branch to, once so many operands were taken.
-    #[tactic(auto, using(crate::proofs::Planning::loops))]
+    #[tactic(auto, using(crate::proofs::Handling::loops))]
     fn branch_by_handlers<'a, T: WasmModuleResources, B: Allocator>(
         &mut self,
         validator: &FuncValidator<T, B>,
         at: u32,
         taken: u32,
-        handlers: Listed<'a, Handle>,
-    ) -> Result<(), SideTableError>
+        table: ResumeTable<'a>,
+    ) -> Result<(), AllocError>
+        ensures planned { OnOk result ((t : OperandTypes)
+            → AreSoMany (T.context validator.now.resources) validator.now.validator t taken
+            → planned_in (T.context validator.now.resources) validator.now.validator at
+            (handle_branches t (handles_of table.entry)) (shown self.old)
+            ≡ Some (shown self.new)) }
         ensures operands { OnOk result (self.new.operands ≡ self.old.operands) }
     {
-        let mut left = handlers.items();
+        let mut left = table.handlers.items();
         'handlers: while let Some(handler) = left.next() {
-            let label = match handler {
-                Handle::OnLabel { tag: _, label } => label,
-                Handle::OnSwitch { tag: _ } => continue 'handlers,
-            };
-            match self.handler_entry(validator, at, taken, label) {
-                Some(entry) => match self.add(entry) {
-                    Ok(()) => {}
-                    Err(error) => return Err(error),
-                },
-                None => return Err(SideTableError::TooLarge),
+            match self.branch_by_handler(validator, at, taken, handler) {
+                Ok(()) => {}
+                Err(error) => return Err(error),
             }
         }
         Ok(())
     }
 
     /// Notes where the handlers of an operator on continuations branch to.
-    #[tactic(auto, using(crate::proofs::Planning::notes))]
+    fn branch_from<'a, T: WasmModuleResources, B: Allocator>(
+        &mut self,
+        validator: &FuncValidator<T, B>,
+        at: u32,
+        op: ContinuationOperator<'a>,
+        table: ResumeTable<'a>,
+    ) -> Result<(), AllocError>
+        ensures planned { OnOk result ((t : OperandTypes)
+            → AreTaken (T.context validator.now.resources) validator.now.validator t
+            (continuation_of op.entry)
+            → planned_in (T.context validator.now.resources) validator.now.validator at
+            (handle_branches t (handles_of table.entry)) (shown self.old)
+            ≡ Some (shown self.new)) }
+        ensures operands { OnOk result (self.new.operands ≡ self.old.operands) }
+    {
+        match operator_arity(&Operator::Continuation(op), validator) {
+            Some((taken, _)) => self.branch_by_handlers(validator, at, taken, table),
+            None => Err(AllocError),
+        }
+    }
+
+    /// Notes the branches of an operator on continuations.
+    #[tactic(auto, using(crate::proofs::Resuming::resuming))]
     pub(crate) fn plan_continuation<'a, T: WasmModuleResources, B: Allocator>(
         &mut self,
         validator: &FuncValidator<T, B>,
         at: u32,
-        op: &Operator<'a>,
-        continuation: &ContinuationOperator<'a>,
-    ) -> Result<(), SideTableError>
+        op: &ContinuationOperator<'a>,
+    ) -> Result<(), AllocError>
         ensures planned { OnOk result (planned_in (T.context validator.now.resources)
-            validator.now.validator at (continuation_branches (continuation_of continuation.now))
+            validator.now.validator at (continuation_branches (continuation_of op.now))
             (shown self.old) ≡ Some (shown self.new)) }
         ensures operands { OnOk result (self.new.operands ≡ self.old.operands) }
     {
-        let table = match continuation {
+        match *op {
             ContinuationOperator::Resume { resume_table, .. }
             | ContinuationOperator::ResumeThrow { resume_table, .. }
-            | ContinuationOperator::ResumeThrowRef { resume_table, .. } => resume_table,
-            ContinuationOperator::ContNew { .. }
-            | ContinuationOperator::ContBind { .. }
-            | ContinuationOperator::Suspend { .. }
-            | ContinuationOperator::Switch { .. } => return Ok(()),
-        };
-        match operator_arity(op, validator) {
-            Some((taken, _)) => self.branch_by_handlers(validator, at, taken, table.handlers),
-            None => Ok(()),
+            | ContinuationOperator::ResumeThrowRef { resume_table, .. } => {
+                self.branch_from(validator, at, *op, resume_table)
+            }
+            _ => Ok(()),
         }
     }
 }

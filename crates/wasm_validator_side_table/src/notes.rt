@@ -50,14 +50,7 @@ impl<A: Allocator> SideTable<A> {
                 self.branch(validator, at, *relative_depth, 1)
             }
             ControlOperator::BrTable { targets } => self.branch_by_table(validator, at, *targets),
-            ControlOperator::Unreachable
-            | ControlOperator::Nop
-            | ControlOperator::Block { blockty: _ }
-            | ControlOperator::Loop { blockty: _ }
-            | ControlOperator::Throw { tag_index: _ }
-            | ControlOperator::ThrowRef
-            | ControlOperator::End
-            | ControlOperator::Return => Ok(()),
+            _ => Ok(()),
         }
     }
 
@@ -77,9 +70,7 @@ impl<A: Allocator> SideTable<A> {
             LegacyOperator::Catch { tag_index: _ } | LegacyOperator::CatchAll => {
                 self.branch(validator, at, 0, 0)
             }
-            LegacyOperator::Try { blockty: _ }
-            | LegacyOperator::Rethrow { relative_depth: _ }
-            | LegacyOperator::Delegate { relative_depth: _ } => Ok(()),
+            _ => Ok(()),
         }
     }
 
@@ -102,11 +93,7 @@ impl<A: Allocator> SideTable<A> {
             ReferenceOperator::BrOnNonNull { relative_depth } => {
                 self.branch(validator, at, *relative_depth, 0)
             }
-            ReferenceOperator::RefNull { hty: _ }
-            | ReferenceOperator::RefIsNull
-            | ReferenceOperator::RefFunc { function_index: _ }
-            | ReferenceOperator::RefEq
-            | ReferenceOperator::RefAsNonNull => Ok(()),
+            _ => Ok(()),
         }
     }
 
@@ -123,33 +110,15 @@ impl<A: Allocator> SideTable<A> {
         ensures operands { OnOk result (self.new.operands ≡ self.old.operands) }
     {
         match op {
-            CastOperator::BrOnCast {
-                relative_depth,
-                from_ref_type: _,
-                to_ref_type: _,
-            } => self.branch(validator, at, *relative_depth, 0),
-            CastOperator::BrOnCastFail {
-                relative_depth,
-                from_ref_type: _,
-                to_ref_type: _,
-            } => self.branch(validator, at, *relative_depth, 0),
-            CastOperator::BrOnCastDescEq {
-                relative_depth,
-                from_ref_type: _,
-                to_ref_type: _,
-            } => self.branch(validator, at, *relative_depth, 1),
-            CastOperator::BrOnCastDescEqFail {
-                relative_depth,
-                from_ref_type: _,
-                to_ref_type: _,
-            } => self.branch(validator, at, *relative_depth, 1),
-            CastOperator::RefTestNonNull { hty: _ }
-            | CastOperator::RefTestNullable { hty: _ }
-            | CastOperator::RefCastNonNull { hty: _ }
-            | CastOperator::RefCastNullable { hty: _ }
-            | CastOperator::RefGetDesc { type_index: _ }
-            | CastOperator::RefCastDescEqNonNull { hty: _ }
-            | CastOperator::RefCastDescEqNullable { hty: _ } => Ok(()),
+            CastOperator::BrOnCast { relative_depth, .. }
+            | CastOperator::BrOnCastFail { relative_depth, .. } => {
+                self.branch(validator, at, *relative_depth, 0)
+            }
+            CastOperator::BrOnCastDescEq { relative_depth, .. }
+            | CastOperator::BrOnCastDescEqFail { relative_depth, .. } => {
+                self.branch(validator, at, *relative_depth, 1)
+            }
+            _ => Ok(()),
         }
     }
 
@@ -170,25 +139,8 @@ impl<A: Allocator> SideTable<A> {
             Operator::Legacy(op) => self.plan_legacy(validator, at, op),
             Operator::Reference(op) => self.plan_reference(validator, at, op),
             Operator::Cast(op) => self.plan_cast(validator, at, op),
-            Operator::Continuation(continuation) => {
-                self.plan_continuation(validator, at, op, continuation)
-            }
-            Operator::Call(_)
-            | Operator::Parametric(_)
-            | Operator::Variable(_)
-            | Operator::Table(_)
-            | Operator::Memory(_, _)
-            | Operator::BulkMemory(_)
-            | Operator::Constant(_)
-            | Operator::Numeric(_)
-            | Operator::Saturating(_)
-            | Operator::Conversion(_)
-            | Operator::Struct(_)
-            | Operator::Array(_)
-            | Operator::Vector(_, _)
-            | Operator::Atomic(_, _)
-            | Operator::Shared(_, _)
-            | Operator::Wide(_) => Ok(()),
+            Operator::Continuation(op) => self.plan_continuation(validator, at, op),
+            _ => Ok(()),
         }
     }
 
@@ -206,14 +158,7 @@ impl<A: Allocator> SideTable<A> {
             ControlOperator::Loop { blockty: _ } => self.open_block(true, behind),
             ControlOperator::Else => self.turn_block(behind),
             ControlOperator::End => self.close_block(behind),
-            ControlOperator::Unreachable
-            | ControlOperator::Nop
-            | ControlOperator::Throw { tag_index: _ }
-            | ControlOperator::ThrowRef
-            | ControlOperator::Br { relative_depth: _ }
-            | ControlOperator::BrIf { relative_depth: _ }
-            | ControlOperator::BrTable { targets: _ }
-            | ControlOperator::Return => Ok(()),
+            _ => Ok(()),
         }
     }
 
@@ -243,25 +188,7 @@ impl<A: Allocator> SideTable<A> {
         match op {
             Operator::Control(op) => self.nest_control(behind, op),
             Operator::Legacy(op) => self.nest_legacy(behind, op),
-            Operator::Reference(_)
-            | Operator::Cast(_)
-            | Operator::Call(_)
-            | Operator::Parametric(_)
-            | Operator::Variable(_)
-            | Operator::Table(_)
-            | Operator::Memory(_, _)
-            | Operator::BulkMemory(_)
-            | Operator::Constant(_)
-            | Operator::Numeric(_)
-            | Operator::Saturating(_)
-            | Operator::Conversion(_)
-            | Operator::Struct(_)
-            | Operator::Array(_)
-            | Operator::Vector(_, _)
-            | Operator::Atomic(_, _)
-            | Operator::Shared(_, _)
-            | Operator::Wide(_)
-            | Operator::Continuation(_) => Ok(()),
+            _ => Ok(()),
         }
     }
 

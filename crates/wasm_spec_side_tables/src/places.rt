@@ -1,0 +1,87 @@
+//! Entries and places, as a table is made of them.
+
+ghost use Rattle.std.specs.Prelude.{◌≡◌, IfSome, slice_set};
+ghost use Rattle.wasm_spec_side_tables.specs.SideTables.{catch_label};
+ghost use Rattle.wasm_spec_side_tables.specs.Building.{resolved};
+
+use crate::entry::{Entry, Place};
+use std::alloc::Allocator;
+use wasm_operators::Catch;
+
+/// A number, if it has 32 bits.
+pub fn narrow(n: usize) -> Option<u32>
+    ensures { IfSome result (λ m. m ≡ n) }
+{
+    if n < 4_294_967_296 {
+        Some(n as u32)
+    } else {
+        None
+    }
+}
+
+/// An offset, if it has 32 bits.
+pub fn narrow_offset(n: u64) -> Option<u32>
+    ensures { IfSome result (λ m. m ≡ n) }
+{
+    if n < 4_294_967_296 {
+        Some(n as u32)
+    } else {
+        None
+    }
+}
+
+/// An entry whose target is the number of its place.
+pub fn make_entry(at: u32, number: u32, kept: usize, dropped: usize) -> Option<Entry>
+    ensures { IfSome result (λ e. e ≡ record {
+      at = at;
+      target = number;
+      next = 0;
+      kept = kept;
+      dropped = dropped;
+    }) }
+{
+    let kept = narrow(kept)?;
+    let dropped = narrow(dropped)?;
+    Some(Entry {
+        at,
+        target: number,
+        next: 0,
+        kept,
+        dropped,
+    })
+}
+
+/// The label that a clause catches to.
+pub fn label_of(clause: Catch) -> u32
+    ensures { result ≡ catch_label clause }
+{
+    match clause {
+        Catch::One { tag: _, label } => label,
+        Catch::OneRef { tag: _, label } => label,
+        Catch::All { label } => label,
+        Catch::AllRef { label } => label,
+    }
+}
+
+/// An entry with the place of its number.
+pub fn resolve(places: &[Place], entry: Entry) -> Option<Entry>
+    ensures { result ≡ resolved places.now entry }
+{
+    let place = places.get(entry.target as usize)?;
+    Some(Entry {
+        at: entry.at,
+        target: place.offset,
+        next: place.next,
+        kept: entry.kept,
+        dropped: entry.dropped,
+    })
+}
+
+/// Fills in the place of a number, if there is such a place.
+pub fn fill<A: Allocator>(places: &mut Vec<Place, A>, number: u32, place: Place)
+    ensures { places.new.items ≡ slice_set places.old.items number place }
+{
+    if (number as usize) < places.len() {
+        places[number as usize] = place;
+    }
+}
