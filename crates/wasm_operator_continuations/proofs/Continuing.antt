@@ -1,20 +1,20 @@
 -- Continuation types that operators name, and those that references are to: what code finds of them.
 use Rattle.std.proofs.Common.{◌≡◌, ℕ, Bool, true, false, List, refl, sym, ap, ◌∙◌}
 use Rattle.std.specs.Prelude.{Option, Some, None, slice_get}
-use Rattle.wasm_operator_continuations.specs.WasmSpec.Syntax.{Heap, abstract_heap, concrete, exact, Ref, Val, reference, Sub}
-use Rattle.wasm_operator_continuations.specs.WasmSpec.ValueTypes.{implies}
-use Rattle.wasm_operator_continuations.specs.WasmSpecRules.Attempts.{◌>>=◌, guard, last_of}
-use Rattle.wasm_operator_continuations.specs.WasmSpecRules.Contexts.{Context}
-use Rattle.wasm_operator_continuations.specs.WasmSpecRules.Signatures.{Signature, signature_of}
-use Rattle.wasm_operator_continuations.specs.WasmReadersTypes.SeenTypes.{comp_of}
-use Rattle.wasm_operator_continuations.specs.WasmReadersTypes.WasmReadersValues.SeenValues.{index_in}
-use Rattle.wasm_operator_continuations.specs.WasmReadersTypes.WasmReadersValues.declared.indices.UnpackedIndex.{UnpackedIndex}
-use Rattle.wasm_operator_continuations.specs.WasmReadersTypes.declared.types.ContType.{ContType}
-use Rattle.wasm_operator_continuations.specs.WasmReadersTypes.declared.types.FuncType.{FuncType}
-use Rattle.wasm_operator_continuations.specs.WasmReadersTypes.declared.types.CompositeInnerType.{CompositeInnerType}
-use Rattle.wasm_operator_continuations.specs.WasmReadersTypes.declared.types.CompositeInnerType.TheVariants.{Func, Array, Struct, Cont}
-use Rattle.wasm_operator_continuations.specs.WasmOperatorChecks.WasmOperatorSteps.Meanings.{cont_of, defined_in, referred}
-use Rattle.wasm_operator_continuations.specs.WasmOperatorChecks.WasmValidatorResources.Answers.{world, sub_in}
+use Rattle.wasm_operator_control.specs.WasmSpec.Syntax.{Heap, abstract_heap, concrete, exact, Ref, Val, reference, Sub}
+use Rattle.wasm_operator_control.specs.WasmSpec.ValueTypes.{implies}
+use Rattle.wasm_operator_control.specs.WasmSpecRules.Attempts.{◌>>=◌, guard, last_of}
+use Rattle.wasm_operator_control.specs.WasmSpecRules.Contexts.{Context}
+use Rattle.wasm_operator_control.specs.WasmSpecRules.Signatures.{Signature, signature_of}
+use Rattle.wasm_operator_control.specs.WasmReadersTypes.SeenTypes.{comp_of}
+use Rattle.wasm_operator_control.specs.WasmReadersTypes.WasmReadersValues.SeenValues.{index_in}
+use Rattle.wasm_operator_control.specs.WasmReadersTypes.WasmReadersValues.declared.indices.UnpackedIndex.{UnpackedIndex}
+use Rattle.wasm_operator_control.specs.WasmReadersTypes.declared.types.ContType.{ContType}
+use Rattle.wasm_operator_control.specs.WasmReadersTypes.declared.types.FuncType.{FuncType}
+use Rattle.wasm_operator_control.specs.WasmReadersTypes.declared.types.CompositeInnerType.{CompositeInnerType}
+use Rattle.wasm_operator_control.specs.WasmReadersTypes.declared.types.CompositeInnerType.TheVariants.{Func, Array, Struct, Cont}
+use Rattle.wasm_operator_control.specs.WasmOperatorChecks.WasmOperatorSteps.Meanings.{cont_of, defined_in, referred}
+use Rattle.wasm_operator_control.specs.WasmOperatorChecks.WasmValidatorResources.Answers.{world, sub_in}
 use Rattle.wasm_operator_continuations.specs.Continued.{continuation_in, type_named, function_named, continuation_named, continued_in, last_continued, continued_at}
 
 -- what isn't a continuation type is of no function type, and what isn't a function type has no signature

@@ -4,29 +4,29 @@ use Rattle.std.specs.Option.{option_map}
 use Rattle.std.specs.Prelude.{Option, Some, None, Result, Err}
 use Rattle.std.proofs.lemmas.Bool.Decides.{nat_tests}
 use Rattle.std.proofs.Math.Bool.{and-true}
-use Rattle.wasm_operator_continuations.specs.WasmSpec.Syntax.{Val, concrete}
-use Rattle.wasm_operator_continuations.specs.WasmSpec.MatchingTests.{World}
-use Rattle.wasm_operator_continuations.specs.WasmSpecRules.Attempts.{◌>>=◌, guard, passes, front_of}
-use Rattle.wasm_operator_continuations.specs.WasmSpecRules.Contexts.{Context}
-use Rattle.wasm_operator_continuations.specs.WasmSpecRules.Signatures.{Signature}
-use Rattle.wasm_operator_continuations.specs.WasmReadersTypes.WasmReadersValues.declared.indices.UnpackedIndex.{UnpackedIndex}
-use Rattle.wasm_operator_continuations.specs.WasmOperators.WasmOperatorsProposals.declared.continuations.Handle.{Handle}
-use Rattle.wasm_operator_continuations.specs.WasmOperators.WasmOperatorsProposals.declared.continuations.Handle.TheVariants.{OnLabel, OnSwitch}
-use Rattle.wasm_operator_continuations.specs.WasmOperatorChecks.WasmOperatorSteps.Actions.{OperandTypes, these, of_tag, params, results, label, front, taken_by, given_by, joined, Check, each_matches, reaches_type, is_exception, Action, need, take, give}
-use Rattle.wasm_operator_continuations.specs.WasmOperatorChecks.WasmOperatorSteps.Bodies.{Surroundings}
-use Rattle.wasm_operator_continuations.specs.WasmOperatorChecks.WasmOperatorSteps.Machine.{State}
-use Rattle.wasm_operator_continuations.specs.WasmOperatorChecks.WasmOperatorSteps.Matching.{matches_vals}
-use Rattle.wasm_operator_continuations.specs.WasmOperatorChecks.WasmOperatorSteps.Meanings.{ref_to, types_at, continued_signature, holds, run}
-use Rattle.wasm_operator_continuations.specs.WasmOperatorChecks.WasmOperatorSteps.Shapes.{nullable_to, gives_of, handle_checks}
-use Rattle.wasm_operator_continuations.specs.WasmOperatorChecks.WasmOperatorSteps.Steps.{checked}
-use Rattle.wasm_operator_continuations.specs.WasmOperatorChecks.WasmValidatorResources.Answers.{world, tag_in}
-use Rattle.wasm_operator_continuations.specs.WasmOperatorChecks.WasmOperatorStacks.Seen.{state_of, around}
-use Rattle.wasm_operator_continuations.specs.WasmOperatorChecks.WasmOperatorStacks.declared.stacks.Stacks.{Stacks}
-use Rattle.wasm_operator_continuations.specs.WasmOperatorChecks.Steps.{Took, acted, typed, held}
-use Rattle.wasm_operator_continuations.specs.WasmOperatorChecks.SeenTypes.{exchanged}
-use Rattle.wasm_operator_continuations.specs.WasmOperatorChecks.declared.faults.OperatorFault.{OperatorFault}
-use Rattle.wasm_operator_continuations.specs.WasmOperatorChecks.declared.faults.OperatorError.{OperatorError}
-use Rattle.wasm_operator_continuations.specs.WasmOperatorChecks.declared.faults.OperatorError.TheVariants.{Refused}
+use Rattle.wasm_operator_control.specs.WasmSpec.Syntax.{Val, concrete}
+use Rattle.wasm_operator_control.specs.WasmSpec.MatchingTests.{World}
+use Rattle.wasm_operator_control.specs.WasmSpecRules.Attempts.{◌>>=◌, guard, passes, front_of}
+use Rattle.wasm_operator_control.specs.WasmSpecRules.Contexts.{Context}
+use Rattle.wasm_operator_control.specs.WasmSpecRules.Signatures.{Signature}
+use Rattle.wasm_operator_control.specs.WasmReadersTypes.WasmReadersValues.declared.indices.UnpackedIndex.{UnpackedIndex}
+use Rattle.wasm_operator_control.specs.WasmOperators.WasmOperatorsProposals.declared.continuations.Handle.{Handle}
+use Rattle.wasm_operator_control.specs.WasmOperators.WasmOperatorsProposals.declared.continuations.Handle.TheVariants.{OnLabel, OnSwitch}
+use Rattle.wasm_operator_control.specs.WasmOperatorChecks.WasmOperatorSteps.Actions.{OperandTypes, these, of_tag, params, results, label, front, taken_by, given_by, joined, Check, each_matches, reaches_type, is_exception, Action, need, take, give}
+use Rattle.wasm_operator_control.specs.WasmOperatorChecks.WasmOperatorSteps.Bodies.{Surroundings}
+use Rattle.wasm_operator_control.specs.WasmOperatorChecks.WasmOperatorSteps.Machine.{State}
+use Rattle.wasm_operator_control.specs.WasmOperatorChecks.WasmOperatorSteps.Matching.{matches_vals}
+use Rattle.wasm_operator_control.specs.WasmOperatorChecks.WasmOperatorSteps.Meanings.{ref_to, types_at, continued_signature, holds, run}
+use Rattle.wasm_operator_control.specs.WasmOperatorChecks.WasmOperatorSteps.Shapes.{nullable_to, gives_of, handle_checks}
+use Rattle.wasm_operator_control.specs.WasmOperatorChecks.WasmOperatorSteps.Steps.{checked}
+use Rattle.wasm_operator_control.specs.WasmOperatorChecks.WasmValidatorResources.Answers.{world, tag_in}
+use Rattle.wasm_operator_control.specs.WasmOperatorChecks.WasmOperatorStacks.Seen.{state_of, around}
+use Rattle.wasm_operator_control.specs.WasmOperatorChecks.WasmOperatorStacks.declared.stacks.Stacks.{Stacks}
+use Rattle.wasm_operator_control.specs.WasmOperatorChecks.Steps.{Took, acted, typed, held}
+use Rattle.wasm_operator_control.specs.WasmOperatorChecks.SeenTypes.{exchanged}
+use Rattle.wasm_operator_control.specs.WasmOperatorChecks.declared.faults.OperatorFault.{OperatorFault}
+use Rattle.wasm_operator_control.specs.WasmOperatorChecks.declared.faults.OperatorError.{OperatorError}
+use Rattle.wasm_operator_control.specs.WasmOperatorChecks.declared.faults.OperatorError.TheVariants.{Refused}
 use Rattle.wasm_operator_control.proofs.WasmOperatorChecks.Acting.{took_along, took_refused, needed, refused_here, refused_later, refused_gives, plainly}
 use Rattle.wasm_operator_control.proofs.WasmOperatorChecks.Typing.{both_typed}
 use Rattle.wasm_operator_continuations.specs.Continued.{type_named, function_named, continuation_named, last_continued, continued_at}

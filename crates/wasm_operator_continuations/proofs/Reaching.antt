@@ -3,23 +3,23 @@ use Rattle.std.proofs.Common.{◌≡◌, ◌⊎◌, inl, inr, ℕ, Bool, true, f
 use Rattle.std.specs.Option.{option_map}
 use Rattle.std.specs.Prelude.{Option, Some, None, Err, slice_get}
 use Rattle.std.proofs.lemmas.Option.{same_Some}
-use Rattle.wasm_operator_continuations.specs.WasmSpec.Syntax.{Val, abstract_heap, exn_heap, concrete, reference, Sub}
-use Rattle.wasm_operator_continuations.specs.WasmSpec.ValueTypes.{implies}
-use Rattle.wasm_operator_continuations.specs.WasmSpecRules.Attempts.{◌>>=◌, guard, passes}
-use Rattle.wasm_operator_continuations.specs.WasmSpecRules.Contexts.{Context}
-use Rattle.wasm_operator_continuations.specs.WasmSpecRules.Signatures.{Signature, signature_of}
-use Rattle.wasm_operator_continuations.specs.WasmReadersTypes.WasmReadersValues.declared.indices.UnpackedIndex.{UnpackedIndex}
-use Rattle.wasm_operator_continuations.specs.WasmOperatorChecks.WasmOperatorSteps.Actions.{OperandTypes, these, of_tag, params, results, continued, each_matches, reaches_type, is_exception, Action, need}
-use Rattle.wasm_operator_continuations.specs.WasmOperatorChecks.WasmOperatorSteps.Machine.{State}
-use Rattle.wasm_operator_continuations.specs.WasmOperatorChecks.WasmOperatorSteps.Matching.{matches_vals}
-use Rattle.wasm_operator_continuations.specs.WasmOperatorChecks.WasmOperatorSteps.Meanings.{ref_to, cont_of, signature_at, continued_signature}
-use Rattle.wasm_operator_continuations.specs.WasmOperatorChecks.WasmOperatorSteps.Shapes.{reference_to, takes_of, gives_of}
-use Rattle.wasm_operator_continuations.specs.WasmOperatorChecks.WasmValidatorResources.Answers.{world, sub_in, tag_in}
-use Rattle.wasm_operator_continuations.specs.WasmOperatorChecks.WasmOperatorStacks.Seen.{around}
-use Rattle.wasm_operator_continuations.specs.WasmOperatorChecks.WasmOperatorStacks.declared.stacks.Stacks.{Stacks}
-use Rattle.wasm_operator_continuations.specs.WasmOperatorChecks.Steps.{Took, acted, typed, held}
-use Rattle.wasm_operator_continuations.specs.WasmOperatorChecks.declared.faults.OperatorFault.{OperatorFault}
-use Rattle.wasm_operator_continuations.specs.WasmOperatorChecks.declared.faults.OperatorError.TheVariants.{Refused}
+use Rattle.wasm_operator_control.specs.WasmSpec.Syntax.{Val, abstract_heap, exn_heap, concrete, reference, Sub}
+use Rattle.wasm_operator_control.specs.WasmSpec.ValueTypes.{implies}
+use Rattle.wasm_operator_control.specs.WasmSpecRules.Attempts.{◌>>=◌, guard, passes}
+use Rattle.wasm_operator_control.specs.WasmSpecRules.Contexts.{Context}
+use Rattle.wasm_operator_control.specs.WasmSpecRules.Signatures.{Signature, signature_of}
+use Rattle.wasm_operator_control.specs.WasmReadersTypes.WasmReadersValues.declared.indices.UnpackedIndex.{UnpackedIndex}
+use Rattle.wasm_operator_control.specs.WasmOperatorChecks.WasmOperatorSteps.Actions.{OperandTypes, these, of_tag, params, results, continued, each_matches, reaches_type, is_exception, Action, need}
+use Rattle.wasm_operator_control.specs.WasmOperatorChecks.WasmOperatorSteps.Machine.{State}
+use Rattle.wasm_operator_control.specs.WasmOperatorChecks.WasmOperatorSteps.Matching.{matches_vals}
+use Rattle.wasm_operator_control.specs.WasmOperatorChecks.WasmOperatorSteps.Meanings.{ref_to, cont_of, signature_at, continued_signature}
+use Rattle.wasm_operator_control.specs.WasmOperatorChecks.WasmOperatorSteps.Shapes.{reference_to, takes_of, gives_of}
+use Rattle.wasm_operator_control.specs.WasmOperatorChecks.WasmValidatorResources.Answers.{world, sub_in, tag_in}
+use Rattle.wasm_operator_control.specs.WasmOperatorChecks.WasmOperatorStacks.Seen.{around}
+use Rattle.wasm_operator_control.specs.WasmOperatorChecks.WasmOperatorStacks.declared.stacks.Stacks.{Stacks}
+use Rattle.wasm_operator_control.specs.WasmOperatorChecks.Steps.{Took, acted, typed, held}
+use Rattle.wasm_operator_control.specs.WasmOperatorChecks.declared.faults.OperatorFault.{OperatorFault}
+use Rattle.wasm_operator_control.specs.WasmOperatorChecks.declared.faults.OperatorError.TheVariants.{Refused}
 use Rattle.wasm_operator_control.proofs.WasmOperatorChecks.Acting.{needed, refused_here}
 use Rattle.wasm_operator_continuations.specs.Continued.{continuation_in, function_named, continued_at}
 

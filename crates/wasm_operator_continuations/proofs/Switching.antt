@@ -5,29 +5,29 @@ use Rattle.std.specs.Option.{option_map}
 use Rattle.std.specs.Prelude.{Option, Some, None, Result, Err, slice_get}
 use Rattle.std.proofs.lemmas.Bool.{le-leb, lt-leb}
 use Rattle.std.proofs.lemmas.List.{drop-map, length-map, take-map, take_rest}
-use Rattle.wasm_operator_continuations.specs.WasmSpec.Syntax.{Val, concrete}
-use Rattle.wasm_operator_continuations.specs.WasmSpec.MatchingTests.{World}
-use Rattle.wasm_operator_continuations.specs.WasmSpecRules.Attempts.{◌>>=◌, passes, front_of}
-use Rattle.wasm_operator_continuations.specs.WasmSpecRules.Contexts.{Context}
-use Rattle.wasm_operator_continuations.specs.WasmSpecRules.Signatures.{Signature}
-use Rattle.wasm_operator_continuations.specs.WasmReadersTypes.WasmReadersValues.SeenValues.{val_of}
-use Rattle.wasm_operator_continuations.specs.WasmReadersTypes.WasmReadersValues.declared.values.ValType.{ValType}
-use Rattle.wasm_operator_continuations.specs.WasmReadersTypes.WasmReadersValues.declared.indices.UnpackedIndex.{UnpackedIndex}
-use Rattle.wasm_operator_continuations.specs.WasmOperators.Continuations.{Continuation, cont_new, cont_bind, suspend, resume, resume_throw, resume_throw_ref, switch}
-use Rattle.wasm_operator_continuations.specs.WasmOperatorChecks.WasmOperatorSteps.Actions.{these, of_tag, params, results, continued, joined, before, behind, front, taken_by, given_by, has, stack_switching, stack_switching_operators, each_matches, reaches_type, Action, need, take, give}
-use Rattle.wasm_operator_continuations.specs.WasmOperatorChecks.WasmOperatorSteps.Machine.{State}
-use Rattle.wasm_operator_continuations.specs.WasmOperatorChecks.WasmOperatorSteps.Matching.{matches_vals}
-use Rattle.wasm_operator_continuations.specs.WasmOperatorChecks.WasmOperatorSteps.Meanings.{ref_to, firsts, all_but, continued_signature}
-use Rattle.wasm_operator_continuations.specs.WasmOperatorChecks.WasmOperatorSteps.Shapes.{reference_to, nullable_to, takes_of, gives_of, continuing, continuation_shape}
-use Rattle.wasm_operator_continuations.specs.WasmOperatorChecks.WasmOperatorSteps.Steps.{actions_of}
-use Rattle.wasm_operator_continuations.specs.WasmOperatorChecks.WasmValidatorResources.Answers.{world, tag_in}
-use Rattle.wasm_operator_continuations.specs.WasmOperatorChecks.WasmOperatorStacks.Seen.{state_of, around}
-use Rattle.wasm_operator_continuations.specs.WasmOperatorChecks.WasmOperatorStacks.declared.stacks.Stacks.{Stacks}
-use Rattle.wasm_operator_continuations.specs.WasmOperatorChecks.Steps.{Took, acted, typed, held}
-use Rattle.wasm_operator_continuations.specs.WasmOperatorChecks.SeenTypes.{exchanged}
-use Rattle.wasm_operator_continuations.specs.WasmOperatorChecks.declared.faults.OperatorFault.{OperatorFault}
-use Rattle.wasm_operator_continuations.specs.WasmOperatorChecks.declared.faults.OperatorError.{OperatorError}
-use Rattle.wasm_operator_continuations.specs.WasmOperatorChecks.declared.faults.OperatorError.TheVariants.{Refused}
+use Rattle.wasm_operator_control.specs.WasmSpec.Syntax.{Val, concrete}
+use Rattle.wasm_operator_control.specs.WasmSpec.MatchingTests.{World}
+use Rattle.wasm_operator_control.specs.WasmSpecRules.Attempts.{◌>>=◌, passes, front_of}
+use Rattle.wasm_operator_control.specs.WasmSpecRules.Contexts.{Context}
+use Rattle.wasm_operator_control.specs.WasmSpecRules.Signatures.{Signature}
+use Rattle.wasm_operator_control.specs.WasmReadersTypes.WasmReadersValues.SeenValues.{val_of}
+use Rattle.wasm_operator_control.specs.WasmReadersTypes.WasmReadersValues.declared.values.ValType.{ValType}
+use Rattle.wasm_operator_control.specs.WasmReadersTypes.WasmReadersValues.declared.indices.UnpackedIndex.{UnpackedIndex}
+use Rattle.wasm_operator_control.specs.WasmOperators.Continuations.{Continuation, cont_new, cont_bind, suspend, resume, resume_throw, resume_throw_ref, switch}
+use Rattle.wasm_operator_control.specs.WasmOperatorChecks.WasmOperatorSteps.Actions.{these, of_tag, params, results, continued, joined, before, behind, front, taken_by, given_by, has, stack_switching, stack_switching_operators, each_matches, reaches_type, Action, need, take, give}
+use Rattle.wasm_operator_control.specs.WasmOperatorChecks.WasmOperatorSteps.Machine.{State}
+use Rattle.wasm_operator_control.specs.WasmOperatorChecks.WasmOperatorSteps.Matching.{matches_vals}
+use Rattle.wasm_operator_control.specs.WasmOperatorChecks.WasmOperatorSteps.Meanings.{ref_to, firsts, all_but, continued_signature}
+use Rattle.wasm_operator_control.specs.WasmOperatorChecks.WasmOperatorSteps.Shapes.{reference_to, nullable_to, takes_of, gives_of, continuing, continuation_shape}
+use Rattle.wasm_operator_control.specs.WasmOperatorChecks.WasmOperatorSteps.Steps.{actions_of}
+use Rattle.wasm_operator_control.specs.WasmOperatorChecks.WasmValidatorResources.Answers.{world, tag_in}
+use Rattle.wasm_operator_control.specs.WasmOperatorChecks.WasmOperatorStacks.Seen.{state_of, around}
+use Rattle.wasm_operator_control.specs.WasmOperatorChecks.WasmOperatorStacks.declared.stacks.Stacks.{Stacks}
+use Rattle.wasm_operator_control.specs.WasmOperatorChecks.Steps.{Took, acted, typed, held}
+use Rattle.wasm_operator_control.specs.WasmOperatorChecks.SeenTypes.{exchanged}
+use Rattle.wasm_operator_control.specs.WasmOperatorChecks.declared.faults.OperatorFault.{OperatorFault}
+use Rattle.wasm_operator_control.specs.WasmOperatorChecks.declared.faults.OperatorError.{OperatorError}
+use Rattle.wasm_operator_control.specs.WasmOperatorChecks.declared.faults.OperatorError.TheVariants.{Refused}
 use Rattle.wasm_operator_control.proofs.WasmOperatorChecks.Acting.{took_along, needed, refused_here, refused_later, refused_takes, refused_gives, plainly}
 use Rattle.wasm_operator_control.proofs.WasmOperatorChecks.Typing.{nothing_typed, both_typed, first_untyped}
 use Rattle.wasm_operator_continuations.specs.Continued.{continuation_in, continuation_named, type_named, function_named, last_continued, continued_at, may_switch}

@@ -1,15 +1,15 @@
 -- Continuation types that operators name, and those that references are to.
 use Rattle.std.specs.Prelude.{ℕ, Bool, ◌&&◌, ◌==◌, List, length, Option, slice_get}
 use Rattle.std.specs.Option.{option_map}
-use Rattle.wasm_operator_continuations.specs.WasmSpec.Syntax.{Val, Sub}
-use Rattle.wasm_operator_continuations.specs.WasmSpec.ValueTypes.{implies}
-use Rattle.wasm_operator_continuations.specs.WasmSpecRules.Contexts.{Context}
-use Rattle.wasm_operator_continuations.specs.WasmSpecRules.Attempts.{◌>>=◌, guard, passes, last_of}
-use Rattle.wasm_operator_continuations.specs.WasmSpecRules.Signatures.{Signature, signature_of}
-use Rattle.wasm_operator_continuations.specs.WasmReadersTypes.WasmReadersValues.declared.indices.UnpackedIndex.{UnpackedIndex}
-use Rattle.wasm_operator_continuations.specs.WasmOperatorChecks.WasmOperatorSteps.Matching.{matches_vals}
-use Rattle.wasm_operator_continuations.specs.WasmOperatorChecks.WasmOperatorSteps.Meanings.{cont_of, referred}
-use Rattle.wasm_operator_continuations.specs.WasmOperatorChecks.WasmValidatorResources.Answers.{world, sub_in, tag_in}
+use Rattle.wasm_operator_control.specs.WasmSpec.Syntax.{Val, Sub}
+use Rattle.wasm_operator_control.specs.WasmSpec.ValueTypes.{implies}
+use Rattle.wasm_operator_control.specs.WasmSpecRules.Contexts.{Context}
+use Rattle.wasm_operator_control.specs.WasmSpecRules.Attempts.{◌>>=◌, guard, passes, last_of}
+use Rattle.wasm_operator_control.specs.WasmSpecRules.Signatures.{Signature, signature_of}
+use Rattle.wasm_operator_control.specs.WasmReadersTypes.WasmReadersValues.declared.indices.UnpackedIndex.{UnpackedIndex}
+use Rattle.wasm_operator_control.specs.WasmOperatorChecks.WasmOperatorSteps.Matching.{matches_vals}
+use Rattle.wasm_operator_control.specs.WasmOperatorChecks.WasmOperatorSteps.Meanings.{cont_of, referred}
+use Rattle.wasm_operator_control.specs.WasmOperatorChecks.WasmValidatorResources.Answers.{world, sub_in, tag_in}
 
 -- the identity of the function type that a continuation type of a type index is of, from a shared function or from another
 unfoldable pub continuation_in : Context UnpackedIndex → Bool → ℕ → Option UnpackedIndex

@@ -1,17 +1,17 @@
 -- Whether handlers suit a continuation that gives some results: what `handle_checks` checks of them, over types that were found.
 use Rattle.std.specs.Prelude.{ℕ, Bool, true, ◌&&◌, ◌==◌, List, [], ◌∷◌, length, Option}
-use Rattle.wasm_operator_continuations.specs.WasmSpec.Syntax.{Val}
-use Rattle.wasm_operator_continuations.specs.WasmSpecRules.Contexts.{Context}
-use Rattle.wasm_operator_continuations.specs.WasmSpecRules.Attempts.{◌>>=◌, guard, passes, front_of}
-use Rattle.wasm_operator_continuations.specs.WasmSpecRules.Signatures.{Signature}
-use Rattle.wasm_operator_continuations.specs.WasmReadersTypes.WasmReadersValues.declared.indices.UnpackedIndex.{UnpackedIndex}
-use Rattle.wasm_operator_continuations.specs.WasmOperators.WasmOperatorsProposals.declared.continuations.Handle.{Handle}
-use Rattle.wasm_operator_continuations.specs.WasmOperators.WasmOperatorsProposals.declared.continuations.Handle.TheVariants.{OnLabel, OnSwitch}
-use Rattle.wasm_operator_continuations.specs.WasmOperatorChecks.WasmOperatorSteps.Matching.{matches_vals}
-use Rattle.wasm_operator_continuations.specs.WasmOperatorChecks.WasmOperatorSteps.Actions.{label}
-use Rattle.wasm_operator_continuations.specs.WasmOperatorChecks.WasmValidatorResources.Answers.{world, tag_in}
-use Rattle.wasm_operator_continuations.specs.WasmOperatorChecks.WasmOperatorStacks.declared.stacks.Stacks.{Stacks}
-use Rattle.wasm_operator_continuations.specs.WasmOperatorChecks.Steps.{typed}
+use Rattle.wasm_operator_control.specs.WasmSpec.Syntax.{Val}
+use Rattle.wasm_operator_control.specs.WasmSpecRules.Contexts.{Context}
+use Rattle.wasm_operator_control.specs.WasmSpecRules.Attempts.{◌>>=◌, guard, passes, front_of}
+use Rattle.wasm_operator_control.specs.WasmSpecRules.Signatures.{Signature}
+use Rattle.wasm_operator_control.specs.WasmReadersTypes.WasmReadersValues.declared.indices.UnpackedIndex.{UnpackedIndex}
+use Rattle.wasm_operator_control.specs.WasmOperators.WasmOperatorsProposals.declared.continuations.Handle.{Handle}
+use Rattle.wasm_operator_control.specs.WasmOperators.WasmOperatorsProposals.declared.continuations.Handle.TheVariants.{OnLabel, OnSwitch}
+use Rattle.wasm_operator_control.specs.WasmOperatorChecks.WasmOperatorSteps.Matching.{matches_vals}
+use Rattle.wasm_operator_control.specs.WasmOperatorChecks.WasmOperatorSteps.Actions.{label}
+use Rattle.wasm_operator_control.specs.WasmOperatorChecks.WasmValidatorResources.Answers.{world, tag_in}
+use Rattle.wasm_operator_control.specs.WasmOperatorChecks.WasmOperatorStacks.declared.stacks.Stacks.{Stacks}
+use Rattle.wasm_operator_control.specs.WasmOperatorChecks.Steps.{typed}
 use Rattle.wasm_operator_continuations.specs.Continued.{last_continued, continued_at}
 
 module _ {A : Type 0} (v : Stacks A) (C : Context UnpackedIndex) (results : List (Val UnpackedIndex)) where

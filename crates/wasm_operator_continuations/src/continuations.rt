@@ -1,15 +1,15 @@
 //! Operators on continuations (the stack-switching proposal).
 
 ghost use Rattle.std.specs.Prelude.{◌≡◌, ◌≤◌, ◌&&◌, [], Some, None, is_ok, IfOk, OnErr, drop, length};
-ghost use Rattle.wasm_operator_continuations.specs.WasmReadersTypes.WasmReadersValues.SeenValues.{index_of};
-ghost use Rattle.wasm_operator_continuations.specs.WasmOperators.Continuations.{cont_new, cont_bind, suspend, switch};
-ghost use Rattle.wasm_operator_continuations.specs.WasmOperators.SeenContinuations.{continuation_of};
-ghost use Rattle.wasm_operator_continuations.specs.WasmOperatorChecks.WasmOperatorSteps.Matching.{matches_vals};
-ghost use Rattle.wasm_operator_continuations.specs.WasmOperatorChecks.WasmOperatorSteps.Shapes.{continuing, continuation_shape};
-ghost use Rattle.wasm_operator_continuations.specs.WasmOperatorChecks.WasmValidatorResources.Answers.{signature_seen, world};
+ghost use Rattle.wasm_operator_control.specs.WasmReadersTypes.WasmReadersValues.SeenValues.{index_of};
+ghost use Rattle.wasm_operator_control.specs.WasmOperators.Continuations.{cont_new, cont_bind, suspend, switch};
+ghost use Rattle.wasm_operator_control.specs.WasmOperators.SeenContinuations.{continuation_of};
+ghost use Rattle.wasm_operator_control.specs.WasmOperatorChecks.WasmOperatorSteps.Matching.{matches_vals};
+ghost use Rattle.wasm_operator_control.specs.WasmOperatorChecks.WasmOperatorSteps.Shapes.{continuing, continuation_shape};
+ghost use Rattle.wasm_operator_control.specs.WasmOperatorChecks.WasmValidatorResources.Answers.{signature_seen, world};
 ghost use Rattle.wasm_operator_continuations.specs.Continued.{continued_at, may_switch};
-ghost use Rattle.wasm_operator_continuations.specs.WasmOperatorChecks.WasmOperatorStacks.Seen.{Kept};
-ghost use Rattle.wasm_operator_continuations.specs.WasmOperatorChecks.Steps.{Performs};
+ghost use Rattle.wasm_operator_control.specs.WasmOperatorChecks.WasmOperatorStacks.Seen.{Kept};
+ghost use Rattle.wasm_operator_control.specs.WasmOperatorChecks.Steps.{Performs};
 
 use crate::continued::{continuation_reached, continued_last, function_of, non_null_to};
 use crate::handlers::tag_type;

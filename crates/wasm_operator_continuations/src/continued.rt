@@ -2,14 +2,14 @@
 
 ghost use Rattle.std.specs.Prelude.{◌≡◌, false, Some, None, IfOk, OnErr};
 ghost use Rattle.std.specs.Option.{option_map};
-ghost use Rattle.wasm_operator_continuations.specs.WasmSpec.Syntax.{concrete};
-ghost use Rattle.wasm_operator_continuations.specs.WasmReadersTypes.WasmReadersValues.SeenValues.{val_of, index_of};
-ghost use Rattle.wasm_operator_continuations.specs.WasmReadersTypes.SeenTypes.{sub_of};
-ghost use Rattle.wasm_operator_continuations.specs.WasmOperatorChecks.WasmOperatorSteps.Meanings.{ref_to, cont_of};
-ghost use Rattle.wasm_operator_continuations.specs.WasmSpecRules.Signatures.{signature_of};
-ghost use Rattle.wasm_operator_continuations.specs.WasmOperatorChecks.WasmValidatorResources.Answers.{signature_seen};
-ghost use Rattle.wasm_operator_continuations.specs.WasmOperatorChecks.WasmOperatorStacks.SeenTypeWords.{val_in};
-ghost use Rattle.wasm_operator_continuations.specs.WasmOperatorChecks.SeenTypes.{types_seen};
+ghost use Rattle.wasm_operator_control.specs.WasmSpec.Syntax.{concrete};
+ghost use Rattle.wasm_operator_control.specs.WasmReadersTypes.WasmReadersValues.SeenValues.{val_of, index_of};
+ghost use Rattle.wasm_operator_control.specs.WasmReadersTypes.SeenTypes.{sub_of};
+ghost use Rattle.wasm_operator_control.specs.WasmOperatorChecks.WasmOperatorSteps.Meanings.{ref_to, cont_of};
+ghost use Rattle.wasm_operator_control.specs.WasmSpecRules.Signatures.{signature_of};
+ghost use Rattle.wasm_operator_control.specs.WasmOperatorChecks.WasmValidatorResources.Answers.{signature_seen};
+ghost use Rattle.wasm_operator_control.specs.WasmOperatorChecks.WasmOperatorStacks.SeenTypeWords.{val_in};
+ghost use Rattle.wasm_operator_control.specs.WasmOperatorChecks.SeenTypes.{types_seen};
 ghost use Rattle.wasm_operator_continuations.specs.Continued.{continuation_in, type_named, function_named, continuation_named, continued_in, last_continued};
 
 use std::alloc::Allocator;

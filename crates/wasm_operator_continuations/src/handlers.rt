@@ -1,12 +1,12 @@
 //! Handlers of operators that resume continuations.
 
 ghost use Rattle.std.specs.Prelude.{◌≡◌, ◌∷◌, [], ◌&&◌, ◌==◌, Some, None, is_ok, IfOk, OnErr, length, map};
-ghost use Rattle.wasm_operator_continuations.specs.WasmReadersTypes.WasmReadersValues.SeenValues.{val_of};
-ghost use Rattle.wasm_operator_continuations.specs.WasmOperators.Continuations.{handle_at};
-ghost use Rattle.wasm_operator_continuations.specs.WasmOperators.SeenLists.{listed};
-ghost use Rattle.wasm_operator_continuations.specs.WasmOperators.WasmOperatorsProposals.declared.continuations.Handle.TheVariants.{OnLabel, OnSwitch};
-ghost use Rattle.wasm_operator_continuations.specs.WasmOperatorChecks.WasmOperatorSteps.Matching.{matches_vals};
-ghost use Rattle.wasm_operator_continuations.specs.WasmOperatorChecks.WasmValidatorResources.Answers.{world, signature_seen, tag_in};
+ghost use Rattle.wasm_operator_control.specs.WasmReadersTypes.WasmReadersValues.SeenValues.{val_of};
+ghost use Rattle.wasm_operator_control.specs.WasmOperators.Continuations.{handle_at};
+ghost use Rattle.wasm_operator_control.specs.WasmOperators.SeenLists.{listed};
+ghost use Rattle.wasm_operator_control.specs.WasmOperators.WasmOperatorsProposals.declared.continuations.Handle.TheVariants.{OnLabel, OnSwitch};
+ghost use Rattle.wasm_operator_control.specs.WasmOperatorChecks.WasmOperatorSteps.Matching.{matches_vals};
+ghost use Rattle.wasm_operator_control.specs.WasmOperatorChecks.WasmValidatorResources.Answers.{world, signature_seen, tag_in};
 ghost use Rattle.wasm_operator_continuations.specs.Handled.{all_handled};
 
 use crate::continued::continued_last;

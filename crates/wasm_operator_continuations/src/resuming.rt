@@ -1,13 +1,13 @@
 //! Operators that resume a continuation.
 
 ghost use Rattle.std.specs.Prelude.{◌≡◌, [], true, Some, None, IfOk, OnErr};
-ghost use Rattle.wasm_operator_continuations.specs.WasmReadersTypes.WasmReadersValues.SeenValues.{index_of};
-ghost use Rattle.wasm_operator_continuations.specs.WasmOperators.Continuations.{resume, resume_throw, resume_throw_ref};
-ghost use Rattle.wasm_operator_continuations.specs.WasmOperators.SeenContinuations.{handles_of};
-ghost use Rattle.wasm_operator_continuations.specs.WasmOperatorChecks.WasmOperatorSteps.Shapes.{continuing};
-ghost use Rattle.wasm_operator_continuations.specs.WasmOperatorChecks.WasmOperatorStacks.Seen.{Kept};
-ghost use Rattle.wasm_operator_continuations.specs.WasmOperatorChecks.WasmValidatorResources.Answers.{signature_seen};
-ghost use Rattle.wasm_operator_continuations.specs.WasmOperatorChecks.Steps.{Performs};
+ghost use Rattle.wasm_operator_control.specs.WasmReadersTypes.WasmReadersValues.SeenValues.{index_of};
+ghost use Rattle.wasm_operator_control.specs.WasmOperators.Continuations.{resume, resume_throw, resume_throw_ref};
+ghost use Rattle.wasm_operator_control.specs.WasmOperators.SeenContinuations.{handles_of};
+ghost use Rattle.wasm_operator_control.specs.WasmOperatorChecks.WasmOperatorSteps.Shapes.{continuing};
+ghost use Rattle.wasm_operator_control.specs.WasmOperatorChecks.WasmOperatorStacks.Seen.{Kept};
+ghost use Rattle.wasm_operator_control.specs.WasmOperatorChecks.WasmValidatorResources.Answers.{signature_seen};
+ghost use Rattle.wasm_operator_control.specs.WasmOperatorChecks.Steps.{Performs};
 ghost use Rattle.wasm_operator_continuations.specs.Continued.{continued_at};
 ghost use Rattle.wasm_operator_continuations.specs.Handled.{all_handled, resumed_at};
 

@@ -1,5 +1,5 @@
 use Rattle.std.proofs.Common.{map, ◌∙◌, ap}
-use Rattle.wasm_operator_continuations.specs.WasmReadersTypes.WasmReadersValues.SeenValues.{val_of}
+use Rattle.wasm_operator_control.specs.WasmReadersTypes.WasmReadersValues.SeenValues.{val_of}
 use Rattle.wasm_operator_continuations.proofs.Switching.{suspended}
 use Rattle.wasm_operator_continuations.proofs.continuations.suspend.Goals as goal
 

@@ -1,6 +1,6 @@
 use Rattle.std.proofs.Common.{map, ◌∙◌, ap}
-use Rattle.wasm_operator_continuations.specs.WasmSpecRules.Attempts.{front_of}
-use Rattle.wasm_operator_continuations.specs.WasmReadersTypes.WasmReadersValues.SeenValues.{val_of}
+use Rattle.wasm_operator_control.specs.WasmSpecRules.Attempts.{front_of}
+use Rattle.wasm_operator_control.specs.WasmReadersTypes.WasmReadersValues.SeenValues.{val_of}
 use Rattle.wasm_operator_continuations.specs.Continued.{last_continued}
 use Rattle.wasm_operator_continuations.proofs.Switching.{from_none, switched, not_switched}
 use Rattle.wasm_operator_continuations.proofs.continuations.switch.Goals as goal

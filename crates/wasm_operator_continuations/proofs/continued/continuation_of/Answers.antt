@@ -1,4 +1,4 @@
-use Rattle.wasm_operator_continuations.specs.WasmReadersTypes.SeenTypes.{sub_of}
+use Rattle.wasm_operator_control.specs.WasmReadersTypes.SeenTypes.{sub_of}
 use Rattle.wasm_operator_continuations.proofs.Continuing.{of_no_function, continuation_is}
 use Rattle.wasm_operator_continuations.proofs.continued.continuation_of.Goals as goal
 

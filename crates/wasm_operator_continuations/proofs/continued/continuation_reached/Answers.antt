@@ -1,6 +1,6 @@
 use Rattle.std.proofs.Common.{sym, ◌∙◌, ap}
-use Rattle.wasm_operator_continuations.specs.WasmReadersTypes.SeenTypes.{comp_of, sub_of}
-use Rattle.wasm_operator_continuations.specs.WasmOperatorChecks.WasmOperatorSteps.Meanings.{cont_of}
+use Rattle.wasm_operator_control.specs.WasmReadersTypes.SeenTypes.{comp_of, sub_of}
+use Rattle.wasm_operator_control.specs.WasmOperatorChecks.WasmOperatorSteps.Meanings.{cont_of}
 use Rattle.wasm_operator_continuations.proofs.Continuing.{not_of_continuations, is_reached, not_reached, not_a_continuation}
 use Rattle.wasm_operator_continuations.proofs.continued.continuation_reached.Goals as goal
 

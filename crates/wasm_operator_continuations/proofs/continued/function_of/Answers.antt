@@ -1,5 +1,5 @@
 use Rattle.std.proofs.Common.{◌∙◌, ap}
-use Rattle.wasm_operator_continuations.specs.WasmReadersTypes.SeenTypes.{sub_of}
+use Rattle.wasm_operator_control.specs.WasmReadersTypes.SeenTypes.{sub_of}
 use Rattle.wasm_operator_continuations.specs.Continued.{type_named}
 use Rattle.wasm_operator_continuations.proofs.Continuing.{function_is}
 use Rattle.wasm_operator_continuations.proofs.continued.function_of.Goals as goal

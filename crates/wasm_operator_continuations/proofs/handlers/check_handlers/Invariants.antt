@@ -1,7 +1,7 @@
 use Rattle.std.proofs.Common.{◌≡◌, length, map}
-use Rattle.wasm_operator_continuations.specs.WasmReadersTypes.WasmReadersValues.SeenValues.{val_of}
-use Rattle.wasm_operator_continuations.specs.WasmOperators.Continuations.{handle_at}
-use Rattle.wasm_operator_continuations.specs.WasmOperators.SeenLists.{items_left}
+use Rattle.wasm_operator_control.specs.WasmReadersTypes.WasmReadersValues.SeenValues.{val_of}
+use Rattle.wasm_operator_control.specs.WasmOperators.Continuations.{handle_at}
+use Rattle.wasm_operator_control.specs.WasmOperators.SeenLists.{items_left}
 use Rattle.wasm_operator_continuations.specs.Handled.{all_handled}
 use Rattle.wasm_operator_continuations.proofs.handlers.check_handlers.Given as goal
 

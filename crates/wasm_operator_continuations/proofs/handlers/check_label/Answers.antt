@@ -1,8 +1,8 @@
 use Rattle.std.proofs.Common.{true, false, map, ◌∙◌, ap}
-use Rattle.wasm_operator_continuations.specs.WasmReadersTypes.WasmReadersValues.SeenValues.{val_of}
-use Rattle.wasm_operator_continuations.specs.WasmOperatorChecks.WasmOperatorSteps.Matching.{matches_vals}
-use Rattle.wasm_operator_continuations.specs.WasmOperatorChecks.WasmValidatorResources.Answers.{world}
-use Rattle.wasm_operator_continuations.specs.WasmOperatorChecks.SeenTypes.{types_seen}
+use Rattle.wasm_operator_control.specs.WasmReadersTypes.WasmReadersValues.SeenValues.{val_of}
+use Rattle.wasm_operator_control.specs.WasmOperatorChecks.WasmOperatorSteps.Matching.{matches_vals}
+use Rattle.wasm_operator_control.specs.WasmOperatorChecks.WasmValidatorResources.Answers.{world}
+use Rattle.wasm_operator_control.specs.WasmOperatorChecks.SeenTypes.{types_seen}
 use Rattle.wasm_operator_continuations.proofs.Handling.{label_suits}
 use Rattle.wasm_operator_continuations.proofs.handlers.check_label.Goals as goal
 

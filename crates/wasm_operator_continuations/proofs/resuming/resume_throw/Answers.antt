@@ -1,5 +1,5 @@
 use Rattle.std.proofs.Common.{Some, map, sym, ◌∙◌, ap}
-use Rattle.wasm_operator_continuations.specs.WasmReadersTypes.WasmReadersValues.SeenValues.{val_of}
+use Rattle.wasm_operator_control.specs.WasmReadersTypes.WasmReadersValues.SeenValues.{val_of}
 use Rattle.wasm_operator_control.proofs.WasmOperatorChecks.Acting.{needed, refused_here, refused_later}
 use Rattle.wasm_operator_continuations.proofs.Reaching.{continued_held, exception_held, no_exception, tag_params}
 use Rattle.wasm_operator_continuations.proofs.Handled.{resumes, not_resumed_by}

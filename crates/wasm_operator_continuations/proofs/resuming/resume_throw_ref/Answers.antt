@@ -1,5 +1,5 @@
 use Rattle.std.proofs.Common.{map, ◌∙◌, ap}
-use Rattle.wasm_operator_continuations.specs.WasmReadersTypes.WasmReadersValues.SeenValues.{val_of}
+use Rattle.wasm_operator_control.specs.WasmReadersTypes.WasmReadersValues.SeenValues.{val_of}
 use Rattle.wasm_operator_control.proofs.WasmOperatorChecks.Acting.{needed}
 use Rattle.wasm_operator_continuations.proofs.Reaching.{continued_held, exception_typed}
 use Rattle.wasm_operator_continuations.proofs.Handled.{resumes, not_resumed}

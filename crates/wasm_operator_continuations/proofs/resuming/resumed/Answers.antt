@@ -1,6 +1,6 @@
 use Rattle.std.proofs.Common.{map, ◌∙◌, ap}
-use Rattle.wasm_operator_continuations.specs.WasmReadersTypes.WasmReadersValues.SeenValues.{val_of}
-use Rattle.wasm_operator_continuations.specs.WasmOperators.SeenContinuations.{handles_of}
+use Rattle.wasm_operator_control.specs.WasmReadersTypes.WasmReadersValues.SeenValues.{val_of}
+use Rattle.wasm_operator_control.specs.WasmOperators.SeenContinuations.{handles_of}
 use Rattle.wasm_operator_continuations.specs.Handled.{all_handled}
 use Rattle.wasm_operator_continuations.proofs.Handled.{not_suited}
 use Rattle.wasm_operator_continuations.proofs.resuming.resumed.Goals as goal
