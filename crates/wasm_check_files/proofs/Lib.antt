@@ -1,3 +1,3 @@
-pub mod Told
+pub mod WorstStatuses
 mod Room
-pub mod Named
+pub mod FilesByName

@@ -48,7 +48,7 @@ pub mod operators {
     pub use wasm_validator_func::read_operator;
 }
 
-/// Passed on from `wasm_operator_validator`.
+/// Passed on from `wasm_typing_validator`.
 pub mod operator_validator {
     pub use wasm_validator_func::operator_validator::{
         Frame, FrameStack, ModuleArity, NotTaken, Operand, OperatorError, OperatorFault,

@@ -4,14 +4,14 @@ ghost use Rattle.std.specs.Prelude.{◌≡◌, OnOk, IfErr, IsTrue};
 ghost use Rattle.wasm_spec_rules.specs.FeatureFlags.{features_of};
 ghost use Rattle.wasm_readers.specs.SectionsSeen.{count_of, bytes_of, section_start, section_end};
 ghost use Rattle.wasm_validator_items.specs.WasmValidatorReferences.References.{names_of_tables, names_of_globals, names_of_exports, names_of_elements};
-ghost use Rattle.wasm_validator_sections.specs.Noted.{naming, noted_of};
+ghost use Rattle.wasm_validator_sections.specs.ModuleNotes.{naming, noted_of};
 ghost use Rattle.wasm_validator_type_list.specs.DefTypes.{types_of_list};
 ghost use Rattle.wasm_validator_items.specs.WasmValidatorCore.WasmValidatorCanonical.Groups.{AreValid};
 ghost use Rattle.wasm_validator_items.specs.WasmValidatorCore.Answers.{Adds, AddsWhere, HasValidTypes};
-ghost use Rattle.wasm_validator_items.specs.WasmValidatorCore.Ready.{IsOpenFor, AreHeld, AreIdsOf};
+ghost use Rattle.wasm_validator_items.specs.WasmValidatorCore.OpenLists.{IsOpenFor, AreHeld, AreIdsOf};
 ghost use Rattle.wasm_validator_items.specs.WasmValidatorCoreResources.ById.{AreFirstByIds};
 ghost use Rattle.wasm_validator_sections.specs.Machine.{type_items, import_items, function_items, table_items, memory_items, tag_items, global_items, export_items, element_items, data_items};
-ghost use Rattle.wasm_validator_sections.specs.SectionsTold.{OfContent, StandsBetween, TellsTypes, TellsImports, TellsFunctions, TellsTables, TellsMemories, TellsTags, TellsGlobals, TellsExports, TellsElements, TellsData};
+ghost use Rattle.wasm_validator_sections.specs.SectionFaults.{OfContent, StandsBetween, TellsTypes, TellsImports, TellsFunctions, TellsTables, TellsMemories, TellsTags, TellsGlobals, TellsExports, TellsElements, TellsData};
 
 use crate::plain_items::{
     ExportItems, FunctionItems, GroupItems, ImportItems, MemoryItems, TagItems,

@@ -8,11 +8,11 @@ use Rattle.wasm_validator_type_list.specs.DefTypes.{types_of_list}
 use Rattle.wasm_validator_items.specs.WasmValidatorCore.Items.{add_export}
 use Rattle.wasm_validator_items.specs.WasmValidatorCore.declared.limits.TheConstants.{MAX_EXPORTS}
 use Rattle.wasm_validator_items.specs.WasmValidatorReferences.References.{names_at, names_of_exports}
-use Rattle.wasm_validator_items.specs.Adding.{tells_read}
-use Rattle.wasm_validator_items.proofs.Adding.{adds_and_notes, named_section_told, section_told}
-use Rattle.wasm_validator_sections.specs.Noted.{noted_of}
+use Rattle.wasm_validator_items.specs.ItemSteps.{tells_read}
+use Rattle.wasm_validator_items.proofs.SectionLoop.{adds_and_notes, named_section_told, section_told}
+use Rattle.wasm_validator_sections.specs.ModuleNotes.{noted_of}
 use Rattle.wasm_validator_sections.specs.Sections.{read_one}
-use Rattle.wasm_validator_sections.specs.SectionsTold.{IsNone, TellsOfExport}
+use Rattle.wasm_validator_sections.specs.SectionFaults.{IsNone, TellsOfExport}
 use Rattle.wasm_validator_sections.proofs.ConstantSections.{section_noted}
 use Rattle.wasm_validator_sections.proofs.module_sections.take_exports.Goals as goal
 

@@ -2,7 +2,7 @@ use Rattle.std.proofs.Common.{ap, length}
 use Rattle.wasm_readers.specs.SectionsSeen.{count_of, bytes_of, section_start, section_end}
 use Rattle.wasm_readers_errors.specs.declared.error.Counted.TheVariants as counted
 use Rattle.wasm_spec_rules.specs.FeatureFlags.{features_of}
-use Rattle.wasm_readers.specs.Written.{written}
+use Rattle.wasm_readers.specs.WrittenIndices.{written}
 use Rattle.wasm_validator_type_list.specs.DefTypes.{types_of_list}
 use Rattle.wasm_validator_items.specs.WasmValidatorReferences.WasmSpecValidity.Expressions.{expression_at}
 use Rattle.wasm_spec.specs.BinarySections.{table_entry_at}
@@ -13,11 +13,11 @@ use Rattle.wasm_validator_items.specs.WasmValidatorReferences.References.{table_
 use Rattle.wasm_validator_items.specs.WasmValidatorCoreResources.IndexContexts.{id_of}
 use Rattle.wasm_validator_items.specs.WasmValidatorCoreResources.ListContexts.{list_declares}
 use Rattle.std.specs.Prelude.{⊤}
-use Rattle.wasm_validator_items.specs.Adding.{naming_step, TellsSteps}
+use Rattle.wasm_validator_items.specs.ItemSteps.{naming_step, TellsSteps}
 use Rattle.wasm_validator_items.specs.WasmValidatorCore.declared.error.Error.{Error}
-use Rattle.wasm_validator_items.proofs.Adding.{count_alone_told}
+use Rattle.wasm_validator_items.proofs.SectionLoop.{count_alone_told}
 use Rattle.wasm_validator_items.proofs.Singles.{items_are_added}
-use Rattle.wasm_validator_sections.specs.Noted.{noted_of}
+use Rattle.wasm_validator_sections.specs.ModuleNotes.{noted_of}
 use Rattle.wasm_validator_sections.proofs.ConstantSections.{constants_noted, section_noted}
 use Rattle.wasm_validator_sections.proofs.module_sections.take_tables.Goals as goal
 

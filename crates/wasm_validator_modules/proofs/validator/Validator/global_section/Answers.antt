@@ -9,13 +9,13 @@ use Rattle.wasm_validator_states.specs.WasmValidatorTypes.Spaces.{Spaces}
 use Rattle.wasm_validator_states.specs.WasmValidatorSections.WasmValidatorCore.declared.error.Error.{Error}
 use Rattle.wasm_validator_states.specs.WasmValidatorSections.WasmValidatorCore.Answers.{TypesSoFar, HasValidTypes}
 use Rattle.wasm_validator_states.specs.WasmValidatorSections.Machine.{other_items, section_items}
-use Rattle.wasm_validator_states.specs.WasmValidatorSections.SectionsTold.{TellsGlobals}
+use Rattle.wasm_validator_states.specs.WasmValidatorSections.SectionFaults.{TellsGlobals}
 use Rattle.wasm_validator_states.specs.WasmValidatorSections.WasmValidatorReferences.References.{section_names}
-use Rattle.wasm_validator_states.specs.WasmValidatorSections.Noted.{naming}
+use Rattle.wasm_validator_states.specs.WasmValidatorSections.ModuleNotes.{naming}
 use Rattle.wasm_validator_states.specs.Views.{order_at}
 use Rattle.wasm_validator_states.proofs.SectionMoves.{section_answers, adds_beside}
 use Rattle.wasm_validator_states.proofs.OpenModules.{stays_ready, open-ids, open-first}
-use Rattle.wasm_validator_states.proofs.ToldMoves.{told_within, order_within}
+use Rattle.wasm_validator_states.proofs.SectionAnswers.{told_within, order_within}
 use Rattle.wasm_validator_modules.proofs.validator.Validator.global_section.Goals as goal
 
 pub take_globals-added-requires-clause-held : goal.take_globals-added-requires-clause-held
