@@ -70,9 +70,8 @@ use wasm_validator_states::sections::validator_core::{Error, check_data_count};
 use wasm_validator_states::sections::validator_core_resources::ValidatorResources;
 use wasm_validator_states::sections::validator_func::FuncToValidate;
 use wasm_validator_states::sections::{
-    Constants, ModuleState, add_functions, add_imports, add_memories, add_tags, add_types,
-    check_data_segments, started, take_elements, take_exports, take_globals, take_tables,
-    tells_types_apart,
+    Constants, ModuleState, add_elements, add_exports, add_functions, add_globals, add_imports,
+    add_memories, add_tables, add_tags, add_types, check_data_segments, started, tells_types_apart,
 };
 use wasm_validator_states::state::{
     State, close_module, find_spaces, finish_types, out_of_order, put_back, take_body, take_module,
@@ -373,7 +372,7 @@ impl<A: Allocator + Copy> Validator<A> {
     {
         match take_module(&mut self.state, section.range().start) {
             Ok(mut state) => {
-                let added = take_exports(
+                let added = add_exports(
                     self.features,
                     self.alloc,
                     &self.types,
@@ -436,7 +435,7 @@ impl<A: Allocator + Copy> Validator<A> {
     {
         match take_module(&mut self.state, section.range().start) {
             Ok(mut state) => {
-                let added = take_tables(
+                let added = add_tables(
                     self.features,
                     &self.types,
                     &mut self.constants,
@@ -542,7 +541,7 @@ impl<A: Allocator + Copy> Validator<A> {
     {
         match take_module(&mut self.state, section.range().start) {
             Ok(mut state) => {
-                let added = take_globals(
+                let added = add_globals(
                     self.features,
                     &self.types,
                     &mut self.constants,
@@ -603,7 +602,7 @@ impl<A: Allocator + Copy> Validator<A> {
     {
         match take_module(&mut self.state, section.range().start) {
             Ok(mut state) => {
-                let added = take_elements(
+                let added = add_elements(
                     self.features,
                     &self.types,
                     &mut self.constants,

@@ -12,8 +12,8 @@ mod single_items;
 pub use code::started;
 pub use code_state::{CodeState, MAX_FUNCTION_SIZE};
 pub use module_sections::{
-    add_functions, add_imports, add_memories, add_tags, add_types, check_data_segments,
-    take_elements, take_exports, take_globals, take_tables,
+    add_elements, add_exports, add_functions, add_globals, add_imports, add_memories, add_tables,
+    add_tags, add_types, check_data_segments,
 };
 pub use module_state::ModuleState;
 pub use wasm_validator_items::references::ReferencedFunctions;

@@ -175,7 +175,7 @@ pub fn check_data_segments<'a, A: Allocator + Copy>(
 }
 
 /// Adds the tables of a table section, and notes the functions that they name.
-pub fn take_tables<'a, A: Allocator + Copy>(
+pub fn add_tables<'a, A: Allocator + Copy>(
     features: WasmFeatures,
     list: &TypeList<A>,
     constants: &mut Constants<A>,
@@ -209,7 +209,7 @@ pub fn take_tables<'a, A: Allocator + Copy>(
 }
 
 /// Adds the globals of a global section, and notes the functions that they name.
-pub fn take_globals<'a, A: Allocator + Copy>(
+pub fn add_globals<'a, A: Allocator + Copy>(
     features: WasmFeatures,
     list: &TypeList<A>,
     constants: &mut Constants<A>,
@@ -243,7 +243,7 @@ pub fn take_globals<'a, A: Allocator + Copy>(
 }
 
 /// Adds the element segments of an element section, and notes the functions that they name.
-pub fn take_elements<'a, A: Allocator + Copy>(
+pub fn add_elements<'a, A: Allocator + Copy>(
     features: WasmFeatures,
     list: &TypeList<A>,
     constants: &mut Constants<A>,
@@ -277,7 +277,7 @@ pub fn take_elements<'a, A: Allocator + Copy>(
 }
 
 /// Adds the exports of an export section, and notes the functions that they name.
-pub fn take_exports<'a, A: Allocator + Copy>(
+pub fn add_exports<'a, A: Allocator + Copy>(
     features: WasmFeatures,
     alloc: A,
     list: &TypeList<A>,

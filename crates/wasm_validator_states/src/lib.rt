@@ -80,9 +80,9 @@ pub mod parser {
 pub mod sections {
     pub use wasm_validator_sections::{
         CodeState, Constants, ExpressionMemory, MAX_FUNCTION_SIZE, ModuleState,
-        ReferencedFunctions, add_functions, add_imports, add_memories, add_tags, add_types,
-        check_data_segments, operator_validator, operators, started, take_elements, take_exports,
-        take_globals, take_tables, tells_types_apart, validator_core, validator_core_resources,
+        ReferencedFunctions, add_elements, add_exports, add_functions, add_globals, add_imports,
+        add_memories, add_tables, add_tags, add_types, check_data_segments, operator_validator,
+        operators, started, tells_types_apart, validator_core, validator_core_resources,
         validator_func,
     };
 }

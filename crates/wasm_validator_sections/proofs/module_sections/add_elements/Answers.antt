@@ -19,7 +19,7 @@ use Rattle.wasm_validator_items.proofs.SectionLoop.{count_alone_told}
 use Rattle.wasm_validator_items.proofs.Singles.{items_are_added}
 use Rattle.wasm_validator_sections.specs.ModuleNotes.{noted_of}
 use Rattle.wasm_validator_sections.proofs.ConstantSections.{constants_noted, section_noted}
-use Rattle.wasm_validator_sections.proofs.module_sections.take_elements.Goals as goal
+use Rattle.wasm_validator_sections.proofs.module_sections.add_elements.Goals as goal
 
 pub returns-clause-added : goal.returns-clause-added
 returns-clause-added g c =
