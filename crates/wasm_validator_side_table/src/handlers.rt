@@ -9,7 +9,7 @@ ghost use Rattle.wasm_validator_side_table.specs.Shown.{shown, planned_in};
 
 use crate::branches::{count_operands, entry};
 use crate::counts::label_counts;
-use crate::error::SideTableError;
+use std::alloc::AllocError;
 use crate::table::SideTable;
 use std::alloc::Allocator;
 use wasm_operators::{ContinuationOperator, Handle, Listed, Operator};
@@ -44,7 +44,7 @@ impl<A: Allocator> SideTable<A> {
         at: u32,
         taken: u32,
         handlers: Listed<'a, Handle>,
-    ) -> Result<(), SideTableError>
+    ) -> Result<(), AllocError>
         ensures operands { OnOk result (self.new.operands ≡ self.old.operands) }
     {
         let mut left = handlers.items();
@@ -58,7 +58,7 @@ impl<A: Allocator> SideTable<A> {
                     Ok(()) => {}
                     Err(error) => return Err(error),
                 },
-                None => return Err(SideTableError::TooLarge),
+                None => return Err(AllocError),
             }
         }
         Ok(())
@@ -72,7 +72,7 @@ impl<A: Allocator> SideTable<A> {
         at: u32,
         op: &Operator<'a>,
         continuation: &ContinuationOperator<'a>,
-    ) -> Result<(), SideTableError>
+    ) -> Result<(), AllocError>
         ensures planned { OnOk result (planned_in (T.context validator.now.resources)
             validator.now.validator at (continuation_branches (continuation_of continuation.now))
             (shown self.old) ≡ Some (shown self.new)) }
