@@ -104,9 +104,10 @@
    - the atomic accesses to globals, tables, structures and arrays, and pause, without
      RUTHVELKA_SHARED_ATOMIC_OPERATORS;
    - the operators of stack switching, without RUTHVELKA_STACK_SWITCHING_OPERATORS; continuation
-     types are validated with RUTHVELKA_STACK_SWITCHING alone.
-   A refusal for want of one of the last five has no proposal in missing_features: their opcodes
-   are none then.
+     types are validated with RUTHVELKA_STACK_SWITCHING alone;
+   - entries of the import section that have several imports, without RUTHVELKA_COMPACT_IMPORTS.
+   A refusal for want of one of the last six has no proposal in missing_features: their opcodes
+   are none then, and nor is what stands where the kind of such an entry's import would.
 
    Trust. Besides what stands under "Handles", the library trusts its caller for what C can't test:
    that each pointer is of as many items as its count says, that what a call writes overlaps
@@ -175,12 +176,14 @@ extern "C" {
     /* atomic accesses to globals, tables, structures, arrays; they need SHARED_EVERYTHING_THREADS */
 #define RUTHVELKA_STACK_SWITCHING_OPERATORS (UINT64_C(1) << 27)
     /* the operators on continuations; they need STACK_SWITCHING too */
+#define RUTHVELKA_COMPACT_IMPORTS (UINT64_C(1) << 28)
+    /* entries of the import section that have several imports of one module */
 /* All but SHARED_EVERYTHING_THREADS, CUSTOM_PAGE_SIZES, CUSTOM_DESCRIPTORS, STACK_SWITCHING,
    COMPONENT_MODEL, VECTOR_OPERATORS, ATOMIC_OPERATORS, LEGACY_EXCEPTIONS, WIDE_ARITHMETIC,
-   MEMORY_CONTROL, DESCRIPTOR_OPERATORS, SHARED_ATOMIC_OPERATORS and STACK_SWITCHING_OPERATORS; and
-   without CRATE_LIMITS. That is the Core Specification 3.0, but for two things: the operators on
-   vectors other than v128.const are missing, which RUTHVELKA_VECTOR_OPERATORS adds; and
-   RUTHVELKA_THREADS is on, so memories may be shared, which the specification has not. */
+   MEMORY_CONTROL, DESCRIPTOR_OPERATORS, SHARED_ATOMIC_OPERATORS, STACK_SWITCHING_OPERATORS and
+   COMPACT_IMPORTS; and without CRATE_LIMITS. That is the Core Specification 3.0, but for two things:
+   the operators on vectors other than v128.const are missing, which RUTHVELKA_VECTOR_OPERATORS adds;
+   and RUTHVELKA_THREADS is on, so memories may be shared, which the specification has not. */
 #define RUTHVELKA_STANDARD UINT64_C(32703)
 
 /* ruthvelka_version: the version of the library that is linked, as RUTHVELKA_VERSION is that of

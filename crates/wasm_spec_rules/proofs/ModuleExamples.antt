@@ -7,6 +7,7 @@ use Rattle.std.specs.Cmp.Lexicographic.{nat_list_eq_equiv}
 use Rattle.std.proofs.lemmas.Map.Made.{IsDistinct-from_count}
 use Rattle.std.proofs.lemmas.Option.{same_Some}
 use Rattle.wasm_readers_errors.specs.WasmSpec.Syntax.{Val, i32, Sub, map_sub}
+use Rattle.wasm_readers_errors.specs.WasmSpec.BinaryModules.{extern_at, import_at, entry_at}
 use Rattle.wasm_readers_errors.specs.WasmSpec.BinarySections.{GlobalEntry}
 use Rattle.wasm_readers_errors.specs.WasmSpec.Closing.{resolve}
 use Rattle.wasm_readers_errors.specs.WasmSpec.GroupRules.{IsValidType}
@@ -19,7 +20,7 @@ use Rattle.wasm_spec_rules.specs.LinkRules.{IsValidImport, IsValidExport, IsVali
 use Rattle.wasm_spec_rules.specs.SegmentRules.{IsValidElement, IsValidData}
 use Rattle.wasm_spec_rules.specs.Modules.{IsAllowedPiece}
 use Rattle.wasm_readers_errors.specs.WasmSpec.Trees.{TypeUse, DefType, close, denote, declared}
-use Rattle.wasm_spec_rules.specs.ModuleExamples.{TableOfOneOrTwo, NoTableOfTwoToOne, NoTableWithoutEntries, MemoryOfAllAddresses, NoMemoryPastAllAddresses, MemoryOfSmallPages, NoMemoryPastSmallPages, NoMemoryOfLargerPages, NoSharedGlobal, NoTagWithoutExceptions, NoMutableImport, MemoryIsExported, NoSecondMemory, NoNameTwice, SizeIsThree, NoPassiveElements, NoWrittenElements, OffsetsReference, NoPassiveData, NoTwoMemories, HeaderIsModule, NoVersionTwo, NoStartWithParameter, first_version, taking_type}
+use Rattle.wasm_spec_rules.specs.ModuleExamples.{TableOfOneOrTwo, NoTableOfTwoToOne, NoTableWithoutEntries, MemoryOfAllAddresses, NoMemoryPastAllAddresses, MemoryOfSmallPages, NoMemoryPastSmallPages, NoMemoryOfLargerPages, NoSharedGlobal, NoTagWithoutExceptions, NoMutableImport, MemoryIsExported, NoSecondMemory, NoNameTwice, SizeIsThree, NoPassiveElements, NoWrittenElements, OffsetsReference, NoPassiveData, NoTwoMemories, HeaderIsModule, NoVersionTwo, NoStartWithParameter, EntryOfOneTypeIsTwo, EntryWithTypesIsTwo, NoEntryIsTwo, first_version, taking_type}
 use Rattle.wasm_spec_rules.specs.Limits.{most_segments, most_body_bytes}
 
 pub table_of_one_or_two : TableOfOneOrTwo
@@ -209,4 +210,16 @@ no_start_with_parameter types e v =
     let has : signature_at types v.ty ≡ Some (i32 ∷ [], []) = (λ i. signature_at (sym same i) (ty i)) ∙ taking_signature in
     takes_some i32 [] (parameters (i32 ∷ [], []) ([], []) (sym has ∙ v.takes_and_gives_nothing))
 
-pub ruleset examples = (table_of_one_or_two, no_table_of_two_to_one, no_table_without_entries, memory_of_all_addresses, no_memory_past_all_addresses, memory_of_small_pages, no_memory_past_small_pages, no_memory_of_larger_pages, no_shared_global, no_tag_without_exceptions, no_mutable_import, memory_is_exported, no_second_memory, no_name_twice, size_is_three, no_start_with_parameter, no_written_elements, offsets_reference, no_passive_elements, no_passive_data, no_two_memories, header_is_module, no_version_two)
+pub entry_of_one_type_is_two : EntryOfOneTypeIsTwo
+unfolding entry_at extern_at
+entry_of_one_type_is_two = refl
+
+pub entry_with_types_is_two : EntryWithTypesIsTwo
+unfolding entry_at extern_at
+entry_with_types_is_two = refl
+
+pub no_entry_is_two : NoEntryIsTwo
+unfolding import_at extern_at
+no_entry_is_two = (refl, refl)
+
+pub ruleset examples = (table_of_one_or_two, no_table_of_two_to_one, no_table_without_entries, memory_of_all_addresses, no_memory_past_all_addresses, memory_of_small_pages, no_memory_past_small_pages, no_memory_of_larger_pages, no_shared_global, no_tag_without_exceptions, no_mutable_import, memory_is_exported, no_second_memory, no_name_twice, size_is_three, no_start_with_parameter, no_written_elements, offsets_reference, no_passive_elements, no_passive_data, no_two_memories, header_is_module, no_version_two, entry_of_one_type_is_two, entry_with_types_is_two, no_entry_is_two)

@@ -328,8 +328,8 @@ impl<A: Allocator + Copy> Validator<A> {
     ///
     /// Refused, at the section's start, where no module is being read or its code has started,
     /// which changes nothing. In a module refused, at the section's start, where a module would
-    /// have too many imports; at the first import that can't be read or breaks a rule; and where
-    /// memory is. The validator has then failed.
+    /// have too many imports, by its count of entries; at the first import that can't be read or
+    /// breaks a rule; and where memory is. The validator has then failed.
     pub fn import_section<'a>(
         &mut self,
         section: &SectionLimited<'a, Import<'a>, A>,

@@ -14,3 +14,4 @@ pub mod Forms
 pub mod Reading
 pub mod SectionEntries
 pub mod GroupsGrow
+pub mod ImportEntries

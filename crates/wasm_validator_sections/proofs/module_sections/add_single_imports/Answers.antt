@@ -9,7 +9,7 @@ use Rattle.wasm_validator_items.specs.WasmValidatorCore.Items.{add_import}
 use Rattle.wasm_validator_items.specs.WasmValidatorCore.declared.limits.TheConstants.{MAX_IMPORTS}
 use Rattle.wasm_validator_items.proofs.Adding.{section_told}
 use Rattle.wasm_validator_sections.specs.SectionsTold.{IsNone, tells_import}
-use Rattle.wasm_validator_sections.proofs.module_sections.add_imports.Goals as goal
+use Rattle.wasm_validator_sections.proofs.module_sections.add_single_imports.Goals as goal
 
 pub returns-clause-told : goal.returns-clause-told
 returns-clause-told g c =
