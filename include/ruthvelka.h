@@ -90,8 +90,8 @@
    limits has no proposal in missing_features: what would lift it is to leave
    RUTHVELKA_CRATE_LIMITS out.
 
-   Left out. Components are refused under all features. These are refused without a feature of
-   their own, which RUTHVELKA_STANDARD doesn't have:
+   Left out. Components and compact imports are refused under all features. These are refused
+   without a feature of their own, which RUTHVELKA_STANDARD doesn't have:
    - the operators on vectors other than v128.const, without RUTHVELKA_VECTOR_OPERATORS;
    - the atomic operators on memories and atomic.fence, without RUTHVELKA_ATOMIC_OPERATORS;
    - try, catch, catch_all, rethrow and delegate, the operators of legacy exceptions, without

@@ -155,7 +155,7 @@ FREE = [
     "without `CRATE_LIMITS` the length of names; with it, that of the names of custom sections;",
     "without it the parameters and results of a function type (but a body has at most as many parameters as locals);",
     "without it the fields of a structure type, and the clauses of a `try_table`;",
-    "how deep blocks are nested, and how many targets a `br_table` has;",
+    "how deep blocks are nested, how many targets a `br_table` has, and how many handlers a `resume`;",
     "how many modules one validator reads, as long as there are ids for their types.",
 ]
 

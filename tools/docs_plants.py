@@ -43,7 +43,7 @@ PLANTS = [
     ("another number of wrong bodies", "CONTRIBUTING.md", HEAD, "There are 1,300 wrong bodies.", "counts"),
     ("another number of crates", "docs/ARCHITECTURE.md", HEAD, "The 70 crates are proved.", "counts"),
     ("another limit", "docs/THEOREM.md", r"\(50,000\)", "(60,000)", "counts"),
-    ("another number of lines", "docs/DEFINITIONS.md", r"\(499 lines\)", "(433 lines)", "counts"),
+    ("another number of lines", "docs/DEFINITIONS.md", r"\(510 lines\)", "(433 lines)", "counts"),
     ("another number of lines, said roughly", "README.md", HEAD, "Read some 8,000 lines, with laws and examples.", "counts"),
     ("another number of features", "README.md", HEAD, "All 21 features can be chosen.", "counts"),
     ("rows that the tests don't print", "crates/test_all/stdout", r"^4\d+ rows", "4444 rows", "counts"),

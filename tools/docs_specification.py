@@ -101,7 +101,7 @@ SECTIONS = {
     "wasm_operators_atomic/SharedCodes": "Shared-Everything Threads, Binary Format",
     "wasm_operators_atomic/SharedForms": "Shared-Everything Threads, Validation",
     "wasm_operators_proposals/Accesses": "Shared-Everything Threads, Binary Format",
-    "wasm_operators_proposals/Continuations": "Stack Switching, Binary Format",
+    "wasm_operators_proposals/Continuations": "the stack-switching proposal, Binary Format",
     "wasm_operators_plain/Opcodes": "Binary Format, Instructions",
     "wasm_operators_vector/Tables": BINARY,
     "wasm_operators/Legacy": "the legacy exception-handling proposal, Binary Format",

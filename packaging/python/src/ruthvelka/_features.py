@@ -30,7 +30,7 @@ class WasmFeatures(IntFlag):
     VECTOR_OPERATORS = 1 << 19  # the operators on vectors, also the relaxed ones; they need SIMD too
     ATOMIC_OPERATORS = 1 << 20  # the atomic operators on memories and atomic.fence; they need THREADS too
     LEGACY_EXCEPTIONS = 1 << 21  # try, catch, catch_all, rethrow and delegate; they need EXCEPTIONS too
-    CRATE_LIMITS = 1 << 22  # no proposal: the limits of the Rust crate's readers; see "Gates"
+    CRATE_LIMITS = 1 << 22  # no proposal: the limits of the Rust crate's readers, for hosts that take modules from strangers
     WIDE_ARITHMETIC = 1 << 23  # sums, differences and products of integers of 128 bits
     MEMORY_CONTROL = 1 << 24  # memory.discard, which gives up the content of pages
     DESCRIPTOR_OPERATORS = 1 << 25  # ref.get_desc, casts and branches by descriptors; they need CUSTOM_DESCRIPTORS too
