@@ -106,7 +106,7 @@
    - the operators of stack switching, without RUTHVELKA_STACK_SWITCHING_OPERATORS; continuation
      types are validated with RUTHVELKA_STACK_SWITCHING alone.
    A refusal for want of one of the last five has no proposal in missing_features: their opcodes
-   are none then.
+   count as unassigned then.
 
    Trust. Besides what stands under "Handles", the library trusts its caller for what C can't test:
    that each pointer is of as many items as its count says, that what a call writes overlaps
@@ -154,8 +154,9 @@ extern "C" {
     /* structure, array, continuation types; references but to functions and exceptions */
 #define RUTHVELKA_CUSTOM_PAGE_SIZES (UINT64_C(1) << 15) /* memories with a written page size */
 #define RUTHVELKA_CUSTOM_DESCRIPTORS (UINT64_C(1) << 16)
-    /* descriptor clauses, and exact references; see "Left out" */
-#define RUTHVELKA_STACK_SWITCHING (UINT64_C(1) << 17) /* continuation types; see "Left out" */
+    /* descriptor clauses, struct.new_desc, exact references; see DESCRIPTOR_OPERATORS */
+#define RUTHVELKA_STACK_SWITCHING (UINT64_C(1) << 17)
+    /* continuation types, and tags with results; see STACK_SWITCHING_OPERATORS */
 #define RUTHVELKA_COMPONENT_MODEL (UINT64_C(1) << 18) /* components, which are not validated */
 #define RUTHVELKA_VECTOR_OPERATORS (UINT64_C(1) << 19)
     /* the operators on vectors, also the relaxed ones; they need SIMD too */
@@ -234,7 +235,7 @@ struct ruthvelka_outcome {
     uint32_t function;
     /* refused: of the byte that is wrong, from the first byte; else 0 */
     uint64_t offset;
-    /* refused: the proposal without which it is, as a bit; 0 where none would lift it */
+    /* refused: the proposal without which it is, as a bit; 0 where none is known to lift it */
     uint64_t missing_features;
     /* refused: how many bytes the whole message has, also where the room was less; else 0 */
     uint64_t message_length;
@@ -670,8 +671,8 @@ uint32_t ruthvelka_function_name(const uint8_t *bytes, size_t length, uint32_t f
 /* What a call reports on a module. */
 struct ruthvelka_report {
     uint64_t offset;           /* refused: of the byte that is wrong, from the first byte; else 0 */
-    uint64_t missing_features; /* refused: the proposal without which it is, as a bit; 0 where there
-                                  is none that would lift it */
+    uint64_t missing_features; /* refused: the proposal without which it is, as a bit; 0 where none
+                                  is known to lift it */
     uint64_t message_length;   /* refused: how many bytes the whole message has, also where the room
                                   was less; else 0 */
     uint64_t imports;          /* valid: how many imports the module has; of any other module this

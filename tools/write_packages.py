@@ -47,7 +47,7 @@ class Header:
 
 def alone(said):
     """What is said of a feature, where the header's prose doesn't stand above."""
-    return said.replace('; see "Left out"', ", in part").replace('; see "Gates"', ", for hosts that take modules from strangers")
+    return said.replace('; see "Gates"', ", for hosts that take modules from strangers")
 
 
 def filled(names, between, first, width=150):
@@ -145,7 +145,9 @@ def man_block(header):
     rows = [".TP"]
     for name, _, said in header.features:
         text = alone(said)
-        text = f"{text[0].upper()}{text[1:]}." if name not in header.standard else f"By default: {text}."
+        # the name of an operator stays as it is
+        begun = text if re.match(r"try\b|[a-z]+\.", text) else f"{text[0].upper()}{text[1:]}"
+        text = f"{begun}." if name not in header.standard else f"By default: {text}."
         rows += [f".B {name.lower()}", text, ".TP"]
     return "".join(f"{it}\n" for it in rows[:-1])
 

@@ -40,9 +40,9 @@ const (
 	GCTypes WasmFeatures = 1 << 14
 	// CustomPageSizes: memories with a written page size.
 	CustomPageSizes WasmFeatures = 1 << 15
-	// CustomDescriptors: descriptor clauses, and exact references, in part.
+	// CustomDescriptors: descriptor clauses, struct.new_desc, exact references; see DESCRIPTOR_OPERATORS.
 	CustomDescriptors WasmFeatures = 1 << 16
-	// StackSwitching: continuation types, in part.
+	// StackSwitching: continuation types, and tags with results; see STACK_SWITCHING_OPERATORS.
 	StackSwitching WasmFeatures = 1 << 17
 	// ComponentModel: components, which are not validated.
 	ComponentModel WasmFeatures = 1 << 18

@@ -24,8 +24,8 @@ class WasmFeatures(IntFlag):
     GC = 1 << 13  # recursion groups, sub types, structures and arrays
     GC_TYPES = 1 << 14  # structure, array, continuation types; references but to functions and exceptions
     CUSTOM_PAGE_SIZES = 1 << 15  # memories with a written page size
-    CUSTOM_DESCRIPTORS = 1 << 16  # descriptor clauses, and exact references, in part
-    STACK_SWITCHING = 1 << 17  # continuation types, in part
+    CUSTOM_DESCRIPTORS = 1 << 16  # descriptor clauses, struct.new_desc, exact references; see DESCRIPTOR_OPERATORS
+    STACK_SWITCHING = 1 << 17  # continuation types, and tags with results; see STACK_SWITCHING_OPERATORS
     COMPONENT_MODEL = 1 << 18  # components, which are not validated
     VECTOR_OPERATORS = 1 << 19  # the operators on vectors, also the relaxed ones; they need SIMD too
     ATOMIC_OPERATORS = 1 << 20  # the atomic operators on memories and atomic.fence; they need THREADS too

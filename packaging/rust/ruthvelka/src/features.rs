@@ -37,9 +37,9 @@ impl WasmFeatures {
     pub const GC_TYPES: WasmFeatures = WasmFeatures(1 << 14);
     /// memories with a written page size
     pub const CUSTOM_PAGE_SIZES: WasmFeatures = WasmFeatures(1 << 15);
-    /// descriptor clauses, and exact references, in part
+    /// descriptor clauses, struct.new_desc, exact references; see DESCRIPTOR_OPERATORS
     pub const CUSTOM_DESCRIPTORS: WasmFeatures = WasmFeatures(1 << 16);
-    /// continuation types, in part
+    /// continuation types, and tags with results; see STACK_SWITCHING_OPERATORS
     pub const STACK_SWITCHING: WasmFeatures = WasmFeatures(1 << 17);
     /// components, which are not validated
     pub const COMPONENT_MODEL: WasmFeatures = WasmFeatures(1 << 18);
