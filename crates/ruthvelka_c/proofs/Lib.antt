@@ -4,4 +4,3 @@ pub mod Given
 pub mod Pushing
 pub mod Reporting
 pub mod Verdicts
-pub mod Writing

@@ -2,7 +2,7 @@
 use Rattle.std.proofs.Common.{ℕ, ◌≡◌, ◌+◌, ◌<◌, ◌≤◌, List, length, slice_index, below_more, refl, ◌∙◌, arith}
 use Rattle.std.proofs.Math.ListN.{set}
 use Rattle.std.proofs.lemmas.List.{get_or-set_same, get_or-set_other, length-set}
-use Rattle.ruthvelka_c.specs.Arrays.{AreWritten}
+use Rattle.wasm_validator_handles.specs.Arrays.{AreWritten}
 
 -- the first of these stand in the array, up to this place
 pub record Upto (given : List ℕ) (i : ℕ) (old new : List ℕ) : Type 0 where

@@ -1,11 +1,11 @@
 //! What is written into a caller's arrays, as far as there is room.
 
 ghost use Rattle.std.specs.Prelude.{◌≡◌, ◌<◌, ◌≤◌, ℕ, length, map, slice_index};
-ghost use Rattle.wasm_validator_handles.specs.WasmValidator.WasmValidatorTypes.Shown.{shown_by};
-ghost use Rattle.ruthvelka_c.specs.Arrays.{AreWritten, HasText};
+ghost use Rattle.wasm_validator.specs.WasmValidatorTypes.Shown.{shown_by};
+ghost use Rattle.wasm_validator_handles.specs.Arrays.{AreWritten, HasText};
 
 use std::alloc::Allocator;
-use wasm_validator_handles::validator::TypesRef;
+use wasm_validator::TypesRef;
 
 /// Writes as much of a text as there is room for, and gives the length of the whole.
 pub fn write_text(to: &mut [u8], text: &[u8]) -> u64
