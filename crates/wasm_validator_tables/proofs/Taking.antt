@@ -1,5 +1,5 @@
 -- A validator that takes one payload after another, up to the body of a function.
-use Rattle.std.proofs.Common.{◌≡◌, ◌≤◌, ◌<◌, ◌+◌, refl, sym, ap, subst, ◌∙◌, arith, List, [], ◌∷◌, ◌++◌, length, ℕ, Bool, true, false, Option, Some, None}
+use Rattle.std.proofs.Common.{◌≡◌, ◌≤◌, ◌+◌, sym, subst, ◌∙◌, arith, List, [], ◌∷◌, ◌++◌, length, ℕ, Bool, true, false, Option, Some, None}
 use Rattle.std.proofs.lemmas.List.{length-drop}
 use Rattle.wasm_spec.specs.Features.{canonical}
 use Rattle.wasm_spec.specs.Framing.{Piece}
