@@ -40,9 +40,26 @@ pub extern "C" fn ruthvelka_proved_side_table(
     let answer = answer_alone(alloc, bytes, features);
     let message_length = write_message(alloc, &answer, message);
     *report = report_of(&answer, message_length);
-    if let Err(error) = &answer {
-        return error_status(error);
+    match &answer {
+        Ok(_) => tell(alloc, bytes, features, function, counts, entries),
+        Err(error) => error_status(error),
     }
+}
+
+/// The same of a module that was accepted.
+fn tell(
+    alloc: Global,
+    bytes: &[u8],
+    features: u64,
+    function: u32,
+    counts: &mut TableCounts,
+    entries: &mut [Entry],
+) -> u32
+    ensures table { result ≡ STATUS_DONE → IsTold bytes.now (flags features) function counts.new
+        entries.old entries.new }
+    ensures stays { result ≢ STATUS_DONE → Stays counts.old counts.new entries.old entries.new }
+    ensures accepted { result ≢ STATUS_REFUSED }
+{
     let features = WasmFeatures::from_bits_retain(features);
     match tell_table(alloc, bytes, features, function, counts, entries) {
         Ok(()) => STATUS_DONE,
