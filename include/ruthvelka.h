@@ -274,8 +274,9 @@ uint32_t ruthvelka_check(const uint8_t *bytes, size_t length, uint64_t features,
 
 /* One branch. The entries of a body come in the order of its instructions, those of one instruction
    in the order of its labels: one for each br, br_if, if, else, br_on_null, br_on_non_null,
-   br_on_cast and br_on_cast_fail; one for each label of a br_table, the default last; one for each
-   clause of a try_table; and one for each catch and catch_all of a `try`. */
+   br_on_cast and br_on_cast_fail, by descriptors or not; one for each label of a br_table, the
+   default last; one for each clause of a try_table, and for each handler of a resume, resume_throw
+   or resume_throw_ref that names a label; and one for each catch and catch_all of a `try`. */
 struct ruthvelka_side_entry {
     uint32_t at;      /* the offset of the instruction that branches */
     uint32_t target;  /* the offset of the instruction to go on with */
