@@ -21,7 +21,7 @@ use wasm_operator_arity::read_served;
 use wasm_operator_blocks::operator_checks::OperatorError;
 use wasm_operator_blocks::operator_stacks::Stacks;
 use wasm_operator_blocks::validator_resources::WasmModuleResources;
-use wasm_operator_fast::{NotTaken, fast_step};
+use wasm_operator_fast::{NotTaken, Told, fast_step, told_step};
 use wasm_readers::BinaryReader;
 use wasm_readers::readers_errors::Error;
 
@@ -145,6 +145,35 @@ impl<A: Allocator> OperatorValidator<A> {
             },
             Err(NotTaken::OutOfMemory) => Err(NotTaken::OutOfMemory),
         }
+    }
+
+    /// As [`OperatorValidator::fast_op`] of the most frequent operators, and tells what a side table
+    /// notes of it.
+    ///
+    /// # Errors
+    ///
+    /// As [`OperatorValidator::frequent_op`].
+    #[inline(always)]
+    pub fn told_op<'a, T: WasmModuleResources>(
+        &mut self,
+        resources: &T,
+        reader: &mut BinaryReader<'a>,
+    ) -> Result<Told, NotTaken> {
+        told_step(reader, &mut self.stacks, resources)
+    }
+
+    /// As [`OperatorValidator::fast_op`] of those that [`OperatorValidator::told_op`] leaves.
+    ///
+    /// # Errors
+    ///
+    /// As [`OperatorValidator::frequent_op`].
+    #[inline(always)]
+    pub fn other_op<'a, T: WasmModuleResources>(
+        &mut self,
+        resources: &T,
+        reader: &mut BinaryReader<'a>,
+    ) -> Result<(), NotTaken> {
+        step_otherwise(reader, &mut self.stacks, resources)
     }
 
     /// Reads the next operator and takes its step, where it is a frequent one, its operands are of

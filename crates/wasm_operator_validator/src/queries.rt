@@ -9,7 +9,7 @@ ghost use Rattle.wasm_operator_validator.specs.Shown.{known_type, shown_frame};
 use crate::validator::OperatorValidator;
 use std::alloc::Allocator;
 use wasm_operator_blocks::operator_stacks::Operand;
-use wasm_operator_fast::operator_control::frame_at;
+use wasm_operator_fast::operator_control::{Block, frame_at};
 use wasm_operators::{BlockType, FrameKind};
 use wasm_readers::readers_errors::WasmFeatures;
 use wasm_readers_types::ValType;
@@ -71,6 +71,47 @@ impl<A: Allocator> OperatorValidator<A> {
         ensures many { 2 ^ 32 ≤ length (typed_state self.now).operands → result ≡ 2 ^ 32 - 1 }
     {
         as_far_as_counted(self.stacks.operands.len())
+    }
+
+    /// How many operands there are.
+    #[inline(always)]
+    pub fn len_operands(&self) -> usize
+        ensures { result ≡ length (typed_state self.now).operands }
+    {
+        self.stacks.operands.len()
+    }
+
+    /// How many operands there were at most since [`OperatorValidator::forget_operands`].
+    pub fn greatest_operands(&self) -> usize {
+        self.stacks.operands.greatest()
+    }
+
+    /// Takes all operands, and counts the greatest number from here.
+    pub fn forget_operands(&mut self) {
+        self.stacks.operands.forget()
+    }
+
+    /// How many operands a branch to this label gives it, and how many stand below its frame, where
+    /// its block has no function type.
+    #[inline(always)]
+    pub fn plain_label(&self, depth: u32) -> Option<(usize, usize)> {
+        match frame_at(&self.stacks, depth as usize) {
+            Some(frame) => match frame.block.seen() {
+                Block::Empty => Some((0, frame.height)),
+                Block::Value(_) => match frame.kind {
+                    FrameKind::Loop => Some((0, frame.height)),
+                    FrameKind::Block
+                    | FrameKind::If
+                    | FrameKind::Else
+                    | FrameKind::TryTable
+                    | FrameKind::LegacyTry
+                    | FrameKind::LegacyCatch
+                    | FrameKind::LegacyCatchAll => Some((1, frame.height)),
+                },
+                Block::Func(_) => None,
+            },
+            None => None,
+        }
     }
 
     /// The type of the operand at this depth, the top at 0: nothing where there is no such

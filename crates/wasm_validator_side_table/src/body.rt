@@ -18,15 +18,14 @@ ghost use Rattle.wasm_validator_side_table.specs.Shown.{shown};
 ghost use Rattle.wasm_validator_side_table.specs.Tables.{Advances, Reaches, HasRead, IsTableOf, IsEmptyTable};
 
 use crate::error::{SideTableError, of_validator};
-use crate::fast::read_quiet;
-use crate::frequent::Taken;
+use crate::others::Taken;
 use crate::table::SideTable;
 use std::alloc::Allocator;
 use wasm_parser::FunctionBody;
 use wasm_readers::BinaryReader;
 use wasm_readers_errors::{Error, Fault, OperatorRule, Refusal};
 use wasm_spec_side_tables::{narrow_offset, resolve};
-use wasm_validator_func::{FuncToValidate, FuncValidator, FuncValidatorAllocations, read_served};
+use wasm_validator_func::{NotTaken, Told, FuncToValidate, FuncValidator, FuncValidatorAllocations, read_served};
 use wasm_validator_resources::WasmModuleResources;
 
 /// The refusal of bytes behind the end of a body, at the first of them.
@@ -127,18 +126,28 @@ impl<A: Allocator> SideTable<A> {
         ensures place { IfErr result (StandsIn reader.old) }
     {
         let mut ahead = *reader;
-        let mut height = 0u32;
+        validator.forget_operands();
         'operators: while !validator.is_finished() {
-            if read_quiet(validator, &mut ahead) {
-                height = height.max(validator.operand_stack_height());
-                continue;
+            let count = validator.len_operands();
+            let start = ahead;
+            match validator.told_op(&mut ahead) {
+                Ok(Told::Quiet) => continue,
+                Ok(told) => {
+                    let before = start;
+                    let behind = ahead.original_position();
+                    if self.put_told(validator, told, &before, behind, count) {
+                        continue;
+                    }
+                    return Err(Error::OutOfMemory);
+                }
+                Err(NotTaken::Left) => {}
+                Err(NotTaken::OutOfMemory) => return Err(Error::OutOfMemory),
             }
             // The reader itself is not lent, so that it can be kept in registers.
             let mut behind = ahead;
-            match self.read_frequent(validator, &mut behind) {
+            match self.read_other(validator, &mut behind) {
                 Taken::Yes => {
                     ahead.go_on_from(&behind);
-                    height = height.max(validator.operand_stack_height());
                     continue;
                 }
                 Taken::No => {}
@@ -149,12 +158,12 @@ impl<A: Allocator> SideTable<A> {
                 Err(error) => return Err(error),
             }
             ahead.go_on_from(&behind);
-            height = height.max(validator.operand_stack_height());
         }
-        if height >= u32::MAX {
+        let height = validator.greatest_operands();
+        if height >= 4_294_967_295 {
             return Err(Error::OutOfMemory);
         }
-        self.operands = height;
+        self.operands = height as u32;
         reader.go_on_from(&ahead);
         Ok(())
     }
