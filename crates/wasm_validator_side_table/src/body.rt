@@ -132,6 +132,24 @@ impl<A: Allocator> SideTable<A> {
             let start = ahead;
             match validator.told_op(&mut ahead) {
                 Ok(Told::Quiet) => continue,
+                Ok(Told::Closes) => {
+                    if self.put_close(ahead.original_position()) {
+                        continue;
+                    }
+                    return Err(Error::OutOfMemory);
+                }
+                Ok(Told::Opens) => {
+                    if self.put_open(false, ahead.original_position()) {
+                        continue;
+                    }
+                    return Err(Error::OutOfMemory);
+                }
+                Ok(Told::OpensLoop) => {
+                    if self.put_open(true, ahead.original_position()) {
+                        continue;
+                    }
+                    return Err(Error::OutOfMemory);
+                }
                 Ok(told) => {
                     let before = start;
                     let behind = ahead.original_position();

@@ -81,6 +81,24 @@ impl<A: Allocator> SideTable<A> {
         self.add(entry).is_ok()
     }
 
+    /// Notes an `end`.
+    #[inline(never)]
+    pub(crate) fn put_close(&mut self, behind: u64) -> bool {
+        match narrow_offset(behind) {
+            Some(behind) => self.close_block(behind).is_ok(),
+            None => false,
+        }
+    }
+
+    /// Notes a `block` or a `loop`.
+    #[inline(never)]
+    pub(crate) fn put_open(&mut self, is_loop: bool, behind: u64) -> bool {
+        match narrow_offset(behind) {
+            Some(behind) => self.open_block(is_loop, behind).is_ok(),
+            None => false,
+        }
+    }
+
     /// Notes the step that was taken of the operator at the start, and ends before this offset.
     /// Before it there were so many operands.
     #[inline(never)]
