@@ -16,7 +16,7 @@ mod steps;
 mod told;
 
 pub use steps::{fast_step, told_step};
-pub use told::Told;
+pub use told::{Noter, Unnoted};
 pub use wasm_operator_control::NotTaken;
 
 /// Passed on from `wasm_operator_numbers`.

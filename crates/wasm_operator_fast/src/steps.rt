@@ -17,7 +17,7 @@ use crate::globals::{get_global, set_global};
 use crate::immediates::{next_block, next_byte, next_index, next_memarg, pass_i32, pass_i64};
 use crate::locals::{local_get, local_set, local_tee};
 use crate::numbers::{compute, constant};
-use crate::told::Told;
+use crate::told::{Noter, Unnoted, as_noted, note_branch};
 use std::alloc::Allocator;
 use wasm_operator_control::NotTaken;
 use wasm_operator_control::operator_stacks::Stacks;
@@ -67,12 +67,14 @@ fn step_by_table<A: Allocator, T: WasmModuleResources>(
 /// A constant or a control operator, or another.
 #[inline(always)]
 #[tactic(auto, using(crate::proofs::Fusing::structures))]
-fn step_structural<A: Allocator, T: WasmModuleResources>(
+fn step_structural<A: Allocator, T: WasmModuleResources, N: Noter>(
     reader: &mut BinaryReader,
     stacks: &mut Stacks<A>,
     resources: &T,
     opcode: u8,
-) -> Result<Told, NotTaken>
+    noter: &mut N,
+    at: u64,
+) -> Result<(), NotTaken>
     ensures input { SameInput reader.old reader.new }
     ensures onward { position_in reader.old ≤ position_in reader.new }
     ensures took { Fuses result (T.context resources.now) opcode reader.old
@@ -82,77 +84,85 @@ fn step_structural<A: Allocator, T: WasmModuleResources>(
     match opcode {
         0x00 => {
             trap(stacks, resources)?;
-            Ok(Told::Quiet)
+            Ok(())
         }
         0x01 => {
             do_nothing(stacks, resources)?;
-            Ok(Told::Quiet)
+            Ok(())
         }
         0x02 => {
             let gives = next_block(reader)?;
             open_block(stacks, resources, gives)?;
-            Ok(Told::Opens)
+            as_noted(noter.opens(false, reader.original_position()))
         }
         0x03 => {
             let gives = next_block(reader)?;
             open_loop(stacks, resources, gives)?;
-            Ok(Told::OpensLoop)
+            as_noted(noter.opens(true, reader.original_position()))
         }
         0x04 => {
             let gives = next_block(reader)?;
             open_if(stacks, resources, gives)?;
-            Ok(Told::OpensThen)
+            as_noted(noter.opens_then(at, reader.original_position()))
         }
         0x0b => {
             end(stacks, resources)?;
-            Ok(Told::Closes)
+            as_noted(noter.closes(reader.original_position()))
         }
         0x0c => {
             let depth = next_index(reader)?;
+            let operands = stacks.operands.len();
             branch_away(stacks, resources, depth)?;
-            Ok(Told::Branches)
+            if !noter.is_noting() {
+                return Ok(());
+            }
+            as_noted(note_branch(noter, stacks, resources, at, depth, operands))
         }
         0x0d => {
             let depth = next_index(reader)?;
+            let operands = stacks.operands.len();
             branch_perhaps(stacks, resources, depth)?;
-            Ok(Told::BranchesPerhaps)
+            if !noter.is_noting() {
+                return Ok(());
+            }
+            as_noted(note_branch(noter, stacks, resources, at, depth, operands - 1))
         }
         0x0f => {
             return_all(stacks, resources)?;
-            Ok(Told::Quiet)
+            Ok(())
         }
         0x10 => {
             let index = next_index(reader)?;
             call_function(stacks, resources, index)?;
-            Ok(Told::Quiet)
+            Ok(())
         }
         0x11 => {
             let type_index = next_index(reader)?;
             let table_index = next_index(reader)?;
             call_in_table(stacks, resources, type_index, table_index)?;
-            Ok(Told::Quiet)
+            Ok(())
         }
         0x1a => {
             drop_one(stacks, resources)?;
-            Ok(Told::Quiet)
+            Ok(())
         }
         0x1b => {
             select_integer(stacks, resources)?;
-            Ok(Told::Quiet)
+            Ok(())
         }
         0x41 => {
             pass_i32(reader)?;
             constant(stacks, resources, NumberType::I32)?;
-            Ok(Told::Quiet)
+            Ok(())
         }
         0x42 => {
             pass_i64(reader)?;
             constant(stacks, resources, NumberType::I64)?;
-            Ok(Told::Quiet)
+            Ok(())
         }
         _ => {
             step_by_table(reader, stacks, resources, opcode)?;
-            Ok(Told::Quiet)
+            Ok(())
         }
     }
 }
@@ -160,12 +170,14 @@ fn step_structural<A: Allocator, T: WasmModuleResources>(
 /// An operator on a local or a global, or another.
 #[inline(always)]
 #[tactic(auto, using(crate::proofs::Fusing::variables))]
-fn step_by_opcode<A: Allocator, T: WasmModuleResources>(
+fn step_by_opcode<A: Allocator, T: WasmModuleResources, N: Noter>(
     reader: &mut BinaryReader,
     stacks: &mut Stacks<A>,
     resources: &T,
     opcode: u8,
-) -> Result<Told, NotTaken>
+    noter: &mut N,
+    at: u64,
+) -> Result<(), NotTaken>
     ensures input { SameInput reader.old reader.new }
     ensures onward { position_in reader.old ≤ position_in reader.new }
     ensures took { Fuses result (T.context resources.now) opcode reader.old
@@ -176,29 +188,29 @@ fn step_by_opcode<A: Allocator, T: WasmModuleResources>(
         0x20 => {
             let index = next_index(reader)?;
             local_get(stacks, resources, index)?;
-            Ok(Told::Quiet)
+            Ok(())
         }
         0x21 => {
             let index = next_index(reader)?;
             local_set(stacks, resources, index)?;
-            Ok(Told::Quiet)
+            Ok(())
         }
         0x22 => {
             let index = next_index(reader)?;
             local_tee(stacks, resources, index)?;
-            Ok(Told::Quiet)
+            Ok(())
         }
         0x23 => {
             let index = next_index(reader)?;
             get_global(stacks, resources, index)?;
-            Ok(Told::Quiet)
+            Ok(())
         }
         0x24 => {
             let index = next_index(reader)?;
             set_global(stacks, resources, index)?;
-            Ok(Told::Quiet)
+            Ok(())
         }
-        _ => step_structural(reader, stacks, resources, opcode),
+        _ => step_structural(reader, stacks, resources, opcode, noter, at),
     }
 }
 
@@ -206,11 +218,12 @@ fn step_by_opcode<A: Allocator, T: WasmModuleResources>(
 /// stand further on.
 #[inline(always)]
 #[tactic(auto, using(crate::proofs::Fusing::steps))]
-fn next_step<A: Allocator, T: WasmModuleResources>(
+fn next_step<A: Allocator, T: WasmModuleResources, N: Noter>(
     reader: &mut BinaryReader,
     stacks: &mut Stacks<A>,
     resources: &T,
-) -> Result<Told, NotTaken>
+    noter: &mut N,
+) -> Result<(), NotTaken>
     ensures input { SameInput reader.old reader.new }
     ensures further { OnOk result (position_in reader.old < position_in reader.new) }
     ensures took { OnOk result (step_at (world (T.context resources.now))
@@ -222,8 +235,9 @@ fn next_step<A: Allocator, T: WasmModuleResources>(
     if !stacks.is_open {
         return Err(NotTaken::Left);
     }
+    let at = reader.original_position();
     let opcode = next_byte(reader)?;
-    step_by_opcode(reader, stacks, resources, opcode)
+    step_by_opcode(reader, stacks, resources, opcode, noter, at)
 }
 
 /// Reads the next operator and takes its step, where it is a frequent one and its operands are of
@@ -234,11 +248,12 @@ fn next_step<A: Allocator, T: WasmModuleResources>(
 /// Where it isn't, or the bytes or the operator are wrong in any way, and where a stack's growth is
 /// refused its memory. Nothing has changed then, and the reader stands where it stood.
 #[inline(always)]
-pub fn told_step<A: Allocator, T: WasmModuleResources>(
+pub fn told_step<A: Allocator, T: WasmModuleResources, N: Noter>(
     reader: &mut BinaryReader,
     stacks: &mut Stacks<A>,
     resources: &T,
-) -> Result<Told, NotTaken>
+    noter: &mut N,
+) -> Result<(), NotTaken>
     ensures input { SameInput reader.old reader.new }
     ensures further { OnOk result (position_in reader.old < position_in reader.new) }
     ensures took { OnOk result (step_at (world (T.context resources.now))
@@ -249,10 +264,10 @@ pub fn told_step<A: Allocator, T: WasmModuleResources>(
     ensures same { Kept stacks.old stacks.new }
 {
     let mut ahead = *reader;
-    match next_step(&mut ahead, stacks, resources) {
-        Ok(told) => {
+    match next_step(&mut ahead, stacks, resources, noter) {
+        Ok(()) => {
             reader.go_on_from(&ahead);
-            Ok(told)
+            Ok(())
         }
         Err(error) => Err(error),
     }
@@ -280,8 +295,9 @@ pub fn fast_step<A: Allocator, T: WasmModuleResources>(
     ensures left { OnErr result (state_of stacks.new ≡ state_of stacks.old) }
     ensures same { Kept stacks.old stacks.new }
 {
-    match told_step(reader, stacks, resources) {
-        Ok(_) => Ok(()),
+    let mut noter = Unnoted {};
+    match told_step(reader, stacks, resources, &mut noter) {
+        Ok(()) => Ok(()),
         Err(error) => Err(error),
     }
 }

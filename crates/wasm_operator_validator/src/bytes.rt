@@ -21,7 +21,7 @@ use wasm_operator_arity::read_served;
 use wasm_operator_blocks::operator_checks::OperatorError;
 use wasm_operator_blocks::operator_stacks::Stacks;
 use wasm_operator_blocks::validator_resources::WasmModuleResources;
-use wasm_operator_fast::{NotTaken, Told, fast_step, told_step};
+use wasm_operator_fast::{NotTaken, Noter, fast_step, told_step};
 use wasm_readers::BinaryReader;
 use wasm_readers::readers_errors::Error;
 
@@ -154,12 +154,13 @@ impl<A: Allocator> OperatorValidator<A> {
     ///
     /// As [`OperatorValidator::frequent_op`].
     #[inline(always)]
-    pub fn told_op<'a, T: WasmModuleResources>(
+    pub fn told_op<'a, T: WasmModuleResources, N: Noter>(
         &mut self,
         resources: &T,
         reader: &mut BinaryReader<'a>,
-    ) -> Result<Told, NotTaken> {
-        told_step(reader, &mut self.stacks, resources)
+        noter: &mut N,
+    ) -> Result<(), NotTaken> {
+        told_step(reader, &mut self.stacks, resources, noter)
     }
 
     /// As [`OperatorValidator::fast_op`] of those that [`OperatorValidator::told_op`] leaves.

@@ -22,5 +22,5 @@ pub use wasm_operator_arity::{
 };
 pub use wasm_operator_blocks::operator_checks::{OperatorError, OperatorFault};
 pub use wasm_operator_blocks::operator_stacks::{MAX_LOCALS, Operand, TypeWord, Word};
-pub use wasm_operator_fast::{NotTaken, Told};
+pub use wasm_operator_fast::{NotTaken, Noter};
 pub use written_types::{is_written_operator, is_written_type};

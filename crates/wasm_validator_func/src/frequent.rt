@@ -9,7 +9,7 @@ ghost use Rattle.wasm_operator_validator.specs.Reads.{stepped};
 
 use crate::func_validator::FuncValidator;
 use std::alloc::Allocator;
-use wasm_operator_validator::{NotTaken, Told};
+use wasm_operator_validator::{NotTaken, Noter};
 use wasm_readers::BinaryReader;
 use wasm_validator_resources::WasmModuleResources;
 
@@ -76,8 +76,12 @@ impl<T: WasmModuleResources, A: Allocator> FuncValidator<T, A> {
     ///
     /// As [`FuncValidator::frequent_op`].
     #[inline(always)]
-    pub fn told_op<'a>(&mut self, reader: &mut BinaryReader<'a>) -> Result<Told, NotTaken> {
-        self.validator.told_op(&self.resources, reader)
+    pub fn told_op<'a, N: Noter>(
+        &mut self,
+        reader: &mut BinaryReader<'a>,
+        noter: &mut N,
+    ) -> Result<(), NotTaken> {
+        self.validator.told_op(&self.resources, reader, noter)
     }
 
     /// As [`FuncValidator::fast_op`] of those that [`FuncValidator::told_op`] leaves.

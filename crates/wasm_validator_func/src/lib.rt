@@ -18,7 +18,7 @@ mod visitors;
 pub use func_validator::{FuncToValidate, FuncValidator, FuncValidatorAllocations, validate_body};
 pub use labels::block_arity;
 pub use laws::bodies_are_declarations_and_instructions;
-pub use wasm_operator_validator::{NotTaken, Told};
+pub use wasm_operator_validator::{NotTaken, Noter};
 pub use next_operator::{read_operator, read_served};
 
 /// Passed on from `wasm_operators`.

@@ -25,7 +25,7 @@ use wasm_parser::FunctionBody;
 use wasm_readers::BinaryReader;
 use wasm_readers_errors::{Error, Fault, OperatorRule, Refusal};
 use wasm_spec_side_tables::{narrow_offset, resolve};
-use wasm_validator_func::{NotTaken, Told, FuncToValidate, FuncValidator, FuncValidatorAllocations, read_served};
+use wasm_validator_func::{NotTaken, FuncToValidate, FuncValidator, FuncValidatorAllocations, read_served};
 use wasm_validator_resources::WasmModuleResources;
 
 /// The refusal of bytes behind the end of a body, at the first of them.
@@ -128,36 +128,8 @@ impl<A: Allocator> SideTable<A> {
         let mut ahead = *reader;
         validator.forget_operands();
         'operators: while !validator.is_finished() {
-            let count = validator.len_operands();
-            let start = ahead;
-            match validator.told_op(&mut ahead) {
-                Ok(Told::Quiet) => continue,
-                Ok(Told::Closes) => {
-                    if self.put_close(ahead.original_position()) {
-                        continue;
-                    }
-                    return Err(Error::OutOfMemory);
-                }
-                Ok(Told::Opens) => {
-                    if self.put_open(false, ahead.original_position()) {
-                        continue;
-                    }
-                    return Err(Error::OutOfMemory);
-                }
-                Ok(Told::OpensLoop) => {
-                    if self.put_open(true, ahead.original_position()) {
-                        continue;
-                    }
-                    return Err(Error::OutOfMemory);
-                }
-                Ok(told) => {
-                    let before = start;
-                    let behind = ahead.original_position();
-                    if self.put_told(validator, told, &before, behind, count) {
-                        continue;
-                    }
-                    return Err(Error::OutOfMemory);
-                }
+            match validator.told_op(&mut ahead, self) {
+                Ok(()) => continue,
                 Err(NotTaken::Left) => {}
                 Err(NotTaken::OutOfMemory) => return Err(Error::OutOfMemory),
             }

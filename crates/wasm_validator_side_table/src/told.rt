@@ -3,9 +3,8 @@
 use crate::counts::label_counts;
 use crate::table::SideTable;
 use std::alloc::Allocator;
-use wasm_readers::BinaryReader;
 use wasm_spec_side_tables::{Entry, make_entry, narrow, narrow_offset};
-use wasm_validator_func::{FuncValidator, Told};
+use wasm_validator_func::{FuncValidator, Noter};
 use wasm_validator_resources::WasmModuleResources;
 
 /// How many operands a branch to this label gives it, and how many stand below its frame.
@@ -36,33 +35,28 @@ impl<A: Allocator> SideTable<A> {
         let dropped = operands.saturating_sub(kept).saturating_sub(height);
         make_entry(at, block.label, kept, dropped)
     }
+}
 
-    /// Notes a branch, whose bytes these are, and before which there were so many operands.
+impl<A: Allocator> Noter for SideTable<A> {
     #[inline(always)]
-    fn put_branch<'a, T: WasmModuleResources, B: Allocator>(
-        &mut self,
-        validator: &FuncValidator<T, B>,
-        start: &BinaryReader<'a>,
-        operands: usize,
-    ) -> bool {
-        let Some(at) = narrow_offset(start.original_position()) else {
-            return false;
-        };
-        let mut ahead = *start;
-        let _opcode = ahead.next_u8();
-        let Some(label) = ahead.next_var_u32() else {
-            return false;
-        };
-        match self.entry_to(validator, at, label, operands) {
-            Some(entry) => self.add(entry).is_ok(),
+    fn is_noting(&self) -> bool {
+        true
+    }
+
+    #[inline(never)]
+    fn opens(&mut self, is_loop: bool, behind: u64) -> bool {
+        match narrow_offset(behind) {
+            Some(behind) => self.open_block(is_loop, behind).is_ok(),
             None => false,
         }
     }
 
-    /// Notes an `if` without parameters.
-    #[inline(always)]
-    fn put_then<'a>(&mut self, start: &BinaryReader<'a>) -> bool {
-        let Some(at) = narrow_offset(start.original_position()) else {
+    #[inline(never)]
+    fn opens_then(&mut self, at: u64, behind: u64) -> bool {
+        let Some(at) = narrow_offset(at) else {
+            return false;
+        };
+        let Some(behind) = narrow_offset(behind) else {
             return false;
         };
         let Some(label) = narrow(self.places.len()) else {
@@ -78,51 +72,28 @@ impl<A: Allocator> SideTable<A> {
             kept: 0,
             dropped: 0,
         };
-        self.add(entry).is_ok()
+        self.add(entry).is_ok() && self.open_block(false, behind).is_ok()
     }
 
-    /// Notes an `end`.
     #[inline(never)]
-    pub(crate) fn put_close(&mut self, behind: u64) -> bool {
+    fn closes(&mut self, behind: u64) -> bool {
         match narrow_offset(behind) {
             Some(behind) => self.close_block(behind).is_ok(),
             None => false,
         }
     }
 
-    /// Notes a `block` or a `loop`.
-    #[inline(never)]
-    pub(crate) fn put_open(&mut self, is_loop: bool, behind: u64) -> bool {
-        match narrow_offset(behind) {
-            Some(behind) => self.open_block(is_loop, behind).is_ok(),
-            None => false,
-        }
-    }
-
-    /// Notes the step that was taken of the operator at the start, and ends before this offset.
-    /// Before it there were so many operands.
-    #[inline(never)]
-    pub(crate) fn put_told<'a, T: WasmModuleResources, B: Allocator>(
-        &mut self,
-        validator: &FuncValidator<T, B>,
-        told: Told,
-        start: &BinaryReader<'a>,
-        behind: u64,
-        operands: usize,
-    ) -> bool {
-        let Some(behind) = narrow_offset(behind) else {
+    #[inline(always)]
+    fn branches(&mut self, at: u64, label: u32, kept: usize, dropped: usize) -> bool {
+        let Some(at) = narrow_offset(at) else {
             return false;
         };
-        match told {
-            Told::Quiet => true,
-            Told::Opens => self.open_block(false, behind).is_ok(),
-            Told::OpensLoop => self.open_block(true, behind).is_ok(),
-            Told::OpensThen => self.put_then(start) && self.open_block(false, behind).is_ok(),
-            Told::Closes => self.close_block(behind).is_ok(),
-            Told::Branches => self.put_branch(validator, start, operands),
-            Told::BranchesPerhaps => {
-                self.put_branch(validator, start, operands.saturating_sub(1))
-            }
+        let Some(block) = self.blocks.get(label as usize) else {
+            return false;
+        };
+        match make_entry(at, block.label, kept, dropped) {
+            Some(entry) => self.add(entry).is_ok(),
+            None => false,
         }
     }
 }
