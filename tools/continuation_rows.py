@@ -242,19 +242,7 @@ def rest():
 def main():
     for part in (plain, resumed, handlers, switches, rest):
         part()
-    lines = row_writer.head_of_modules() + ["#", "# Written by tools/continuation_rows.py, which says where the wanted answers come from."]
-    answers, lacking = Answers(), []
-    for it in CASES:
-        if isinstance(it, str):
-            lines += ["", "# " + it]
-            continue
-        title, features, made, wanted = it
-        wanted = wanted or row_writer.wanted_of(answers.of(made), title, NAMED, SAID)
-        if wanted is None:
-            lacking.append(title)
-            continue
-        lines.append(" | ".join([title, features, "H " + made[8:].hex(), wanted]))
-    return row_writer.main({"modules/continuations.rows": "\n".join(lines) + "\n"}, lacking, sys.argv[1:])
+    return row_writer.write_cases("modules/continuations.rows", "continuation_rows.py", CASES, Answers(), NAMED, SAID, sys.argv[1:])
 
 
 if __name__ == "__main__":

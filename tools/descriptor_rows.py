@@ -202,19 +202,7 @@ def main():
     descriptors()
     casts()
     branches()
-    lines = row_writer.head_of_modules() + ["#", "# Written by tools/descriptor_rows.py, which says where the wanted answers come from."]
-    answers, lacking = Answers(), []
-    for it in CASES:
-        if isinstance(it, str):
-            lines += ["", "# " + it]
-            continue
-        title, features, module, wanted = it
-        wanted = wanted or row_writer.wanted_of(answers.of(module), title, NAMED, SAID)
-        if wanted is None:
-            lacking.append(title)
-            continue
-        lines.append(" | ".join([title, features, "H " + module[8:].hex(), wanted]))
-    return row_writer.main({"modules/descriptors.rows": "\n".join(lines) + "\n"}, lacking, sys.argv[1:])
+    return row_writer.write_cases("modules/descriptors.rows", "descriptor_rows.py", CASES, Answers(), NAMED, SAID, sys.argv[1:])
 
 
 if __name__ == "__main__":

@@ -51,6 +51,23 @@ def wanted_of(answer, title, named, said):
     return f"refused {answer.offset} {text}"
 
 
+def write_cases(path, tool, cases, answers, named, said, words):
+    """Writes the file of rows that a tool makes of these cases, as `main` does. A case is a line above others, or a title, features, a module, and what is
+    wanted; where that is None, it is what the Rust crate answers, in the words of `named` and `said` (`wanted_of`)."""
+    lines, lacking = head_of_modules() + ["#", f"# Written by tools/{tool}, which says where the wanted answers come from."], []
+    for it in cases:
+        if isinstance(it, str):
+            lines += ["", "# " + it]
+            continue
+        title, features, module, wanted = it
+        wanted = wanted or wanted_of(answers.of(module), title, named, said)
+        if wanted is None:
+            lacking.append(title)
+            continue
+        lines.append(" | ".join([title, features, "H " + module[8:].hex(), wanted]))
+    return main({path: "\n".join(lines) + "\n"}, lacking, words)
+
+
 def main(files, lacking, words):
     """Writes these files, each text under its path below DATA, or with `--check` compares them with those that are there, and prints for each whether it is
     the same byte for byte. `lacking` names the cases for which no answer is known: they have to name one."""
