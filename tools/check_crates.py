@@ -13,8 +13,8 @@ ROOT = os.path.dirname(os.path.dirname(os.path.abspath(__file__)))
 MOST_WALKS, MOST_CRATES, MOST_LINES, MOST_FUNCTIONS = 3_800, 76, 1_500, 110
 ALL, MOST_WALKS_OF_ALL = "test_all", 10_700
 # What is passed on for users alone: the condition of `FuncValidator::op`, which their contracts name.
-FOR_USERS = {("wasm_validator_func", "specs/Stepped")}
-LAYERS = ("wasm_spec", "wasm_readers", "wasm_operator", "wasm_items", "wasm_parser", "wasm_validat", "wasm_check", "wasm_laws_", "rows_", "test_all", "examples", "ruthvelka_c")
+FOR_USERS = {("wasm_validator_func", "specs/StackSteps")}
+LAYERS = ("wasm_spec", "wasm_readers", "wasm_operators", "wasm_typing", "wasm_items", "wasm_parser", "wasm_validat", "wasm_check", "wasm_laws_", "rows_", "test_all", "examples", "ruthvelka_c")
 
 
 def read(path):

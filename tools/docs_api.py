@@ -72,14 +72,14 @@ GROUPS = [
     ("operators", "Expressions", ["wasm_items/const_expr", "wasm_items/operators_reader", "wasm_operators/expressions", "wasm_operators_proposals/lists"]),
     ("operators", "All operators", ["wasm_operators/operators", "wasm_validator_func/next_operator"]),
     ("operators", "Families of operators", ["wasm_operators", "wasm_operators_plain", "wasm_operators_vector", "wasm_operators_atomic", "wasm_operators_proposals"]),
-    ("operators", "How many operands an operator takes and gives", ["wasm_operator_arity"]),
+    ("operators", "How many operands an operator takes and gives", ["wasm_typing_arity"]),
     ("validate", "Whole modules and lists of modules", ["wasm_validator_modules/payload", "wasm_validator/list"]),
     ("validate", "Payload by payload", ["wasm_validator_modules"]),
     ("validate", "Features", ["wasm_readers_features/features"]),
     (
         "validate",
         "Bodies",
-        ["wasm_validator_func", "wasm_operator_validator", "wasm_operator_stacks", "wasm_operator_checks", "wasm_operator_control/not_taken"],
+        ["wasm_validator_func", "wasm_typing_validator", "wasm_typing_stacks", "wasm_typing_checks", "wasm_typing_control/not_taken"],
     ),
     ("validate", "What bodies and expressions look up", ["wasm_validator_resources", "wasm_validator_core_resources", "wasm_validator_references"]),
     (

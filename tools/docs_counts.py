@@ -92,7 +92,7 @@ def counts(tree):
     limits, spec = "crates/wasm_validator_core/src/limits.rt", "crates/wasm_spec_instructions/specs"
     rules = [f"{spec}/{it}.antt" for it in ("Code", "ValueTypes", "Scopes", "Rules", "Sequences", "Expressions")]
     bodies = [f"crates/wasm_laws_instructions/specs/{it}.antt" for it in ("Bodies", "Modules")]
-    defined = specs(tree, "wasm_spec", "wasm_spec_rules", "wasm_operator_steps", "wasm_spec_instructions", "wasm_spec_validity")
+    defined = specs(tree, "wasm_spec", "wasm_spec_rules", "wasm_spec_steps", "wasm_spec_instructions", "wasm_spec_validity")
     defined += specs(tree, "wasm_operators_plain", "wasm_operators_vector", "wasm_operators_atomic", "wasm_operators")
     ids = constant(tree, "crates/wasm_readers_values/src/indices.rt", "MAX_IDS")
     return [
@@ -113,7 +113,7 @@ def counts(tree):
         (rf"`Expressions` \({DIGITS} lines\)", {count_lines(tree, *rules)}),
         (rf"`wasm_laws_instructions` \({DIGITS} lines\)", {count_lines(tree, *bodies)}),
         (rf"rules of the standard's chapter, some {DIGITS} lines", {count_lines(tree, *rules, *bodies)}),
-        (rf"locals \({DIGITS}\)|locals are at most {DIGITS}|than {DIGITS} locals", {constant(tree, "crates/wasm_operator_stacks/src/locals.rt", "MAX_LOCALS")}),
+        (rf"locals \({DIGITS}\)|locals are at most {DIGITS}|than {DIGITS} locals", {constant(tree, "crates/wasm_typing_stacks/src/locals.rt", "MAX_LOCALS")}),
         (rf"items of a segment \({DIGITS}\)|at most {DIGITS} items", {constant(tree, "crates/wasm_validator_segments/src/lists.rt", "MAX_ITEMS")}),
         (rf"ancestors of a type \({DIGITS}\)|at most {DIGITS} (?:proper )?ancestors", {constant(tree, "crates/wasm_validator_type_checks/src/subtypes.rt", "MAX_WASM_SUBTYPING_DEPTH")}),
         (rf"module's type \(below {DIGITS}\)", {constant(tree, "crates/wasm_validator_checks/src/entities.rt", "MAX_EFFECTIVE_SIZE")}),

@@ -71,8 +71,8 @@ OWN = [
         "Counted::FunctionBodySize", "wasm_validator_states/state",
     ),
     Row(
-        "locals of a body, with its parameters", Constant("wasm_operator_stacks/locals", "MAX_LOCALS"), "each declaration",
-        "OperatorRule::TooManyLocals", "wasm_operator_stacks/locals",
+        "locals of a body, with its parameters", Constant("wasm_typing_stacks/locals", "MAX_LOCALS"), "each declaration",
+        "OperatorRule::TooManyLocals", "wasm_typing_stacks/locals",
     ),
     Row(
         "effective size of a module's type", Constant("wasm_validator_checks/entities", "MAX_EFFECTIVE_SIZE", "below {}"),
@@ -94,8 +94,8 @@ GATES = [
     Row("results of a function type", Constant(TYPES, "MAX_WASM_FUNCTION_RETURNS"), "each recursion group", "GroupRule::FunctionReturns", TYPES),
     Row("fields of a structure type", Constant(TYPES, "MAX_WASM_STRUCT_FIELDS"), "each recursion group", "GroupRule::StructFields", TYPES),
     Row(
-        "catch clauses of a `try_table`", Constant("wasm_operator_blocks/tries", "MAX_WASM_CATCHES"), "each `try_table`",
-        "OperatorRule::CatchCount", "wasm_operator_blocks/tries",
+        "catch clauses of a `try_table`", Constant("wasm_typing_blocks/tries", "MAX_WASM_CATCHES"), "each `try_table`",
+        "OperatorRule::CatchCount", "wasm_typing_blocks/tries",
     ),
     Row("bytes of the name of an export, and of each name of an import", Constant("wasm_validator_checks/names", "MAX_STRING_SIZE"), "each", "ItemRule::NameSize", "wasm_validator_checks/names"),
 ]
@@ -130,23 +130,23 @@ STANDARD = [
     ),
     Row(
         "alignment of a load or store",
-        Found("wasm_operator_numbers/accesses", r"arg\.align <= (max_align)\(op\)", "the bytes that it reads or writes"), "",
-        "OperatorRule::Alignment", "wasm_operator_numbers/accesses", "Validation, Instructions, Memory Instructions",
+        Found("wasm_typing_numbers/accesses", r"arg\.align <= (max_align)\(op\)", "the bytes that it reads or writes"), "",
+        "OperatorRule::Alignment", "wasm_typing_numbers/accesses", "Validation, Instructions, Memory Instructions",
     ),
     Row(
         "alignment of an atomic operator",
-        Found("wasm_operator_numbers/forms", r"Alignment::Exactly\((_)\) => OperatorRule::AtomicAlignment", "just the bytes that it reads or writes"),
-        "", "OperatorRule::AtomicAlignment", "wasm_operator_numbers/forms", "the threads proposal",
+        Found("wasm_typing_numbers/forms", r"Alignment::Exactly\((_)\) => OperatorRule::AtomicAlignment", "just the bytes that it reads or writes"),
+        "", "OperatorRule::AtomicAlignment", "wasm_typing_numbers/forms", "the threads proposal",
     ),
     Row(
         "lane of a vector",
-        Found("wasm_operator_numbers/forms", r"bits % 256 < (32)", "below the number of lanes; of `i8x16.shuffle` below {}"), "",
-        "OperatorRule::Lane", "wasm_operator_numbers/forms", "Validation, Instructions, Vector Instructions",
+        Found("wasm_typing_numbers/forms", r"bits % 256 < (32)", "below the number of lanes; of `i8x16.shuffle` below {}"), "",
+        "OperatorRule::Lane", "wasm_typing_numbers/forms", "Validation, Instructions, Vector Instructions",
     ),
     Row(
         "offset of a load or store",
-        Found("wasm_operator_numbers/accesses", r"memory64 \|\| arg\.offset < (4_294_967_296)", "2^32 - 1; of a 64-bit memory 2^64 - 1"),
-        "", "OperatorRule::Offset", "wasm_operator_numbers/accesses", "Validation, Instructions, Memory Instructions",
+        Found("wasm_typing_numbers/accesses", r"memory64 \|\| arg\.offset < (4_294_967_296)", "2^32 - 1; of a 64-bit memory 2^64 - 1"),
+        "", "OperatorRule::Offset", "wasm_typing_numbers/accesses", "Validation, Instructions, Memory Instructions",
     ),
 ]
 

@@ -5,7 +5,7 @@ from docs_counts import constant, flags_of
 
 RECORD = "crates/wasm_spec/specs/Features.antt"
 WEIGHTS = "crates/wasm_spec_rules/specs/FeatureFlags.antt"
-TESTS = "crates/wasm_readers_features/specs/On.antt"
+TESTS = "crates/wasm_readers_features/specs/ProposalFlags.antt"
 HELP = "bin/wasm-check.txt"
 MUTATIONS = "tools/shape_mutations.py"
 NAMES = "crates/wasm_spec/specs/Limits.antt"
@@ -28,11 +28,11 @@ CONSTANTS = {
     "most_items": ("wasm_validator_segments/src/lists.rt", "MAX_ITEMS"),
     "most_segments": ("wasm_validator_core/src/limits.rt", "MAX_DATA_SEGMENTS"),
     "most_body_bytes": ("wasm_validator_sections/src/code_state.rt", "MAX_FUNCTION_SIZE"),
-    "most_locals": ("wasm_operator_stacks/src/locals.rt", "MAX_LOCALS"),
+    "most_locals": ("wasm_typing_stacks/src/locals.rt", "MAX_LOCALS"),
     "most_params": ("wasm_validator_resources/src/composite_types.rt", "MAX_WASM_FUNCTION_PARAMS"),
     "most_results": ("wasm_validator_resources/src/composite_types.rt", "MAX_WASM_FUNCTION_RETURNS"),
     "most_fields": ("wasm_validator_resources/src/composite_types.rt", "MAX_WASM_STRUCT_FIELDS"),
-    "most_clauses": ("wasm_operator_blocks/src/tries.rt", "MAX_WASM_CATCHES"),
+    "most_clauses": ("wasm_typing_blocks/src/tries.rt", "MAX_WASM_CATCHES"),
     "most_name_bytes": ("wasm_validator_checks/src/names.rt", "MAX_STRING_SIZE"),
 }
 # A number from here on is a limit's, and stands for nothing else in definitions and proofs.

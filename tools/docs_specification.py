@@ -30,8 +30,8 @@ CHAPTERS = [
     (
         "Types and matching",
         "Which types are valid with which features, when two recursive types are equal, and which types match.",
-        "wasm_spec/Features wasm_readers_features/On wasm_spec_rules/FeatureFlags wasm_spec/References wasm_spec/Trees wasm_spec/TypeLaws wasm_spec/Closing "
-        "wasm_spec/Declared wasm_spec/ValueTypes wasm_spec/Limits wasm_spec/CrateLimits wasm_spec/Defaults wasm_spec/Matching wasm_spec/GroupRules wasm_spec/LinkMatching "
+        "wasm_spec/Features wasm_readers_features/ProposalFlags wasm_spec_rules/FeatureFlags wasm_spec/References wasm_spec/Trees wasm_spec/TypeLaws wasm_spec/Closing "
+        "wasm_spec/SupertypeOrder wasm_spec/ValueTypes wasm_spec/Limits wasm_spec/CrateLimits wasm_spec/Defaults wasm_spec/Matching wasm_spec/GroupRules wasm_spec/LinkMatching "
         "wasm_spec/MatchingTests "
         "wasm_spec_rules/Worlds",
     ),
@@ -47,22 +47,22 @@ CHAPTERS = [
         "wasm_operators_plain/Immediates wasm_operators_plain/Opcodes wasm_operators_plain/Numeric wasm_operators_plain/Constants "
         "wasm_operators_plain/Variables wasm_operators_plain/Calls "
         "wasm_operators_plain/Tables wasm_operators_plain/Memories wasm_operators_plain/Structs wasm_operators_plain/Arrays "
-        "wasm_operators_plain/Conversions wasm_operators_vector/Tables wasm_operators_vector/Codes wasm_operators_atomic/Codes wasm_operators_atomic/Wide "
+        "wasm_operators_plain/Conversions wasm_operators_vector/Tables wasm_operators_vector/Codes wasm_operators_atomic/Codes wasm_operators_atomic/WideArithmetic "
         "wasm_operators_atomic/SharedCodes wasm_operators_proposals/Accesses wasm_operators_proposals/Continuations wasm_operators/FormImmediates "
-        "wasm_operators/Control wasm_operators/References wasm_operators/Legacy wasm_operators/Instructions wasm_operator_steps/Sequences",
+        "wasm_operators/Control wasm_operators/References wasm_operators/Legacy wasm_operators/Instructions wasm_spec_steps/Sequences",
     ),
     (
         "Instructions: the table",
         "What each instruction checks, takes and gives: once, for the rules and for the algorithm.",
         "wasm_operators_plain/Signatures wasm_operators_vector/Forms wasm_operators_atomic/Forms wasm_operators_atomic/SharedForms "
-        "wasm_operator_steps/Actions wasm_operator_steps/Forms "
-        "wasm_operator_steps/Shapes wasm_operator_steps/ConstantExpressions",
+        "wasm_spec_steps/Actions wasm_spec_steps/Forms "
+        "wasm_spec_steps/Shapes wasm_spec_steps/ConstantExpressions",
     ),
     (
         "Instructions: what the table's words mean",
         "What both the rules and the algorithm look up in a module.",
-        "wasm_operator_steps/Bodies wasm_operator_steps/Matching wasm_operator_steps/Machine wasm_operator_steps/Meanings wasm_operator_steps/ConstantRules "
-        "wasm_operator_steps/FunctionBodies",
+        "wasm_spec_steps/Bodies wasm_spec_steps/Matching wasm_spec_steps/Machine wasm_spec_steps/Meanings wasm_spec_steps/ConstantRules "
+        "wasm_spec_steps/FunctionBodies",
     ),
     (
         "Instructions: the rules of the standard's chapter",
@@ -73,8 +73,8 @@ CHAPTERS = [
     (
         "Instructions: the algorithm of the standard's appendix",
         "What only the algorithm needs: two stacks, and the step of each instruction.",
-        "wasm_operator_steps/Actions wasm_operator_steps/Machine wasm_operator_steps/Meanings wasm_operator_steps/Steps wasm_operator_steps/ConstantRules "
-        "wasm_operator_steps/FunctionBodies",
+        "wasm_spec_steps/Actions wasm_spec_steps/Machine wasm_spec_steps/Meanings wasm_spec_steps/Steps wasm_spec_steps/ConstantRules "
+        "wasm_spec_steps/FunctionBodies",
     ),
     (
         "Validity",
@@ -86,11 +86,11 @@ CHAPTERS = [
         "What the answers show",
         "The list of types and the index spaces that an accepted module's `Types` show, and what the answers on a list of modules say.",
         "wasm_readers_values/Indices wasm_readers_values/SeenValues wasm_readers_types/SeenTypes wasm_readers_types/Entities wasm_spec/TypeLists "
-        "wasm_validator_type_groups/Groups wasm_validator_type_list/Listing wasm_validator_type_ancestors/Supers wasm_validator_type_list/Declares "
-        "wasm_validator_type_list/DefTypes wasm_validator_type_ancestors/Listable wasm_validator_type_list/Listable wasm_validator_canonical/Indices "
-        "wasm_validator_canonical/Sections wasm_spec/TreeCode wasm_validator_canonical/Found wasm_validator_canonical/Counted wasm_validator_checks/Sizes "
-        "wasm_validator_types/Spaces wasm_validator_types/Shown wasm_laws_core/Shown wasm_validator_states/Shows "
-        "wasm_validator_sections/Started wasm_validator_sections/Noted wasm_validator_states/Standing wasm_validator/Lists "
+        "wasm_validator_type_groups/Groups wasm_validator_type_list/ListViews wasm_validator_type_ancestors/Supers wasm_validator_type_list/DeclarationsById "
+        "wasm_validator_type_list/DefTypes wasm_validator_type_ancestors/GroupReferences wasm_validator_type_list/GroupOrder wasm_validator_canonical/Indices "
+        "wasm_validator_canonical/Sections wasm_spec/TreeCode wasm_validator_canonical/ListPlaces wasm_validator_canonical/TypeTotals wasm_validator_checks/Sizes "
+        "wasm_validator_types/Spaces wasm_validator_types/ShownModules wasm_laws_core/ModuleParts wasm_validator_states/ShownModules "
+        "wasm_validator_sections/CodeProgress wasm_validator_sections/ModuleNotes wasm_validator_states/ValidatorStages wasm_validator/Lists "
         "wasm_validator/Headline",
     ),
 ]
@@ -105,7 +105,7 @@ SECTIONS = {
     "wasm_operators_plain/Opcodes": "Binary Format, Instructions",
     "wasm_operators_vector/Tables": BINARY,
     "wasm_operators/Legacy": "the legacy exception-handling proposal, Binary Format",
-    "wasm_operator_steps/Actions": "Appendix, Validation Algorithm",
+    "wasm_spec_steps/Actions": "Appendix, Validation Algorithm",
     "wasm_spec_rules/LinkRules": "Validation, Modules, Imports, Exports and Start Function",
     "wasm_laws_instructions/Laws": "Validation, Modules",
 }
@@ -263,7 +263,7 @@ def chapters_of(statement):
     items = statement.items(0)
     by_rules = statement.closure([("item", statement.specs.modules["wasm_laws_instructions", "Modules"].items["IsValidByRules"])])
     found, left = [], set(items)
-    apart = {it for it in items if it.module.crate == "wasm_operator_steps" and ("item", it.key) not in by_rules}
+    apart = {it for it in items if it.module.crate == "wasm_spec_steps" and ("item", it.key) not in by_rules}
     for title, about, names in CHAPTERS:
         files = []
         for name in names.split():

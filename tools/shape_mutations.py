@@ -1,7 +1,7 @@
 #!/usr/bin/env python3
 """shape_mutations.py: runs the table of shapes over the rows of bodies, and then with one change of it at a time.
 
-The table is crates/wasm_operator_steps/specs/Shapes.antt, read as it stands; what its words mean (Actions, Meanings, Machine and Steps
+The table is crates/wasm_spec_steps/specs/Shapes.antt, read as it stands; what its words mean (Actions, Meanings, Machine and Steps
 there) is written again here, over modules that are taken from crates/test_all/data/modules/bodies.rows. First every row whose
 answer is a body's is compared with what the table says: whether the body is accepted. Then single changes of the table are made:
 a check is left out; a value type, a list of operands or a flag is another one; two lists change places. A change that leaves every
@@ -16,7 +16,7 @@ sys.path.insert(0, HERE)
 import wasm_assembler as W
 
 ROOT = os.path.join(HERE, '..', 'crates')
-SHAPES = os.path.join(ROOT, 'wasm_operator_steps', 'specs', 'Shapes.antt')
+SHAPES = os.path.join(ROOT, 'wasm_spec_steps', 'specs', 'Shapes.antt')
 ROWS = os.path.join(ROOT, 'test_all', 'data', 'modules', 'bodies.rows')
 LARGEST = 20000
 sys.setrecursionlimit(5000)

@@ -1,1 +1,1 @@
-mod Linked
+mod FunctionLinks

@@ -7,7 +7,7 @@ use Rattle.wasm_spec.specs.Trees.{DefType}
 use Rattle.wasm_spec_rules.specs.FeatureFlags.{features_of}
 use Rattle.wasm_spec_rules.specs.IndexSpaces.{index_spaces}
 use Rattle.wasm_validator.specs.WasmSpecValidity.Modules.{IsValidModule}
-use Rattle.wasm_validator.specs.WasmValidatorTypes.Shown.{Shown}
+use Rattle.wasm_validator.specs.WasmValidatorTypes.ShownModules.{Shown}
 
 -- The bytes are a valid module, and the function with this index is there and has this type.
 pub record HasFunction (F : Features) (bytes : List ℕ) (x : ℕ) (d : DefType) : Type 0 where

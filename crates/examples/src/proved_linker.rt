@@ -2,7 +2,7 @@
 //! another asks for one, by their ids alone.
 ghost use Rattle.std.specs.Prelude.{◌≡◌, true, IfOk};
 ghost use Rattle.wasm_validator.specs.Lists.{lent};
-ghost use Rattle.wasm_validator.specs.WasmValidatorTypes.Shown.{shown_of};
+ghost use Rattle.wasm_validator.specs.WasmValidatorTypes.ShownModules.{shown_of};
 ghost use Rattle.examples.specs.Links.{HaveOneId, MayLink};
 
 use std::alloc::Allocator;

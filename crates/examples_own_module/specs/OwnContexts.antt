@@ -1,7 +1,7 @@
 -- The context that the lists of a module in a user's own form give, where a type's id is its index. Core Specification 3.0, Validation, Conventions (Contexts).
 use Rattle.std.specs.Prelude.{ℕ, suc, List, [], ◌∷◌, map, Option}
 use Rattle.wasm_spec.specs.Syntax.{Sub}
-use Rattle.wasm_spec.specs.Declared.{supertype}
+use Rattle.wasm_spec.specs.SupertypeOrder.{supertype}
 use Rattle.wasm_spec_rules.specs.Attempts.{◌>>=◌}
 use Rattle.wasm_spec_rules.specs.Contexts.{Context}
 use Rattle.wasm_readers_types.specs.SeenExterns.{table_of, memory_of, global_of}

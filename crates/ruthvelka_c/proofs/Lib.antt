@@ -1,7 +1,7 @@
-pub mod Alone
-pub mod Asking
-pub mod Given
-pub mod Pushing
-pub mod Reporting
+pub mod LoneModuleIds
+pub mod QuestionAnswers
+pub mod AnswerExterns
+pub mod FunctionIds
+pub mod ItemReports
 pub mod Verdicts
-pub mod Writing
+pub mod ArrayWrites

@@ -3,7 +3,7 @@ use Rattle.std.specs.Prelude.{ℕ, ◌≡◌, List, [], length, slice_get, Some}
 use Rattle.std.specs.Option.{option_map}
 use Rattle.std.specs.declared.result.Result.TheVariants.{Ok, Err}
 use Rattle.wasm_validator_handles.specs.WasmValidator.WasmValidatorTypes.Spaces.{Spaces}
-use Rattle.wasm_validator_handles.specs.WasmValidator.WasmValidatorTypes.Shown.{shown_of}
+use Rattle.wasm_validator_handles.specs.WasmValidator.WasmValidatorTypes.ShownModules.{shown_of}
 use Rattle.wasm_validator_handles.specs.Entities.{AreOf, plain_of}
 use Rattle.wasm_validator_handles.specs.declared.entities.Extern.{Extern}
 use Rattle.wasm_validator_handles.specs.declared.entities.ExternType.{ExternType}

@@ -3,16 +3,16 @@ use Rattle.std.specs.Prelude.{ℕ, ◌≡◌, ◌≢◌, ◌⊎◌, if◌then◌
 use Rattle.std.specs.declared.alloc.Global.{Global}
 use Rattle.std.specs.declared.result.Result.{Result}
 use Rattle.std.specs.declared.result.Result.TheVariants.{Ok, Err}
-use Rattle.wasm_validator_handles.specs.Keeping.{Answers, Resets}
+use Rattle.wasm_validator_handles.specs.HandleContents.{Answers, Resets}
 use Rattle.wasm_validator_handles.specs.declared.kept.Kept.{Kept}
 use Rattle.wasm_validator_handles.specs.declared.kept.Kept.TheVariants.{Validator, Types}
 use Rattle.wasm_validator_handles.specs.declared.kept.NotAsked.{NotAsked}
 use Rattle.wasm_validator_handles.specs.declared.kept.NotAsked.TheVariants.{NoValidator, HasFailed}
-use Rattle.wasm_validator_handles.specs.Keeping.{types_of}
+use Rattle.wasm_validator_handles.specs.HandleContents.{types_of}
 use Rattle.wasm_validator_handles.specs.WasmValidator.Verdict.{AreModule}
 use Rattle.wasm_validator_handles.specs.WasmValidator.WasmValidatorCore.declared.error.Error.{Error}
 use Rattle.wasm_validator_handles.specs.WasmValidator.WasmValidatorCore.declared.error.Error.TheVariants.{Refused, DuplicateExport, InFunction, OutOfMemory}
-use Rattle.wasm_validator_handles.specs.WasmValidator.WasmValidatorTypes.Shown.{shown_of}
+use Rattle.wasm_validator_handles.specs.WasmValidator.WasmValidatorTypes.ShownModules.{shown_of}
 use Rattle.wasm_validator_handles.specs.WasmValidator.WasmValidatorTypes.declared.shown.Types as shown
 use Rattle.ruthvelka_c.specs.declared.report.Report.{Report}
 use Rattle.ruthvelka_c.specs.declared.handles.TheConstants.{STATUS_DONE, STATUS_VALID, STATUS_REFUSED, STATUS_NO_MEMORY, STATUS_FAILED, STATUS_WRONG}

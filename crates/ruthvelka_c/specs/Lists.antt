@@ -3,10 +3,10 @@ use Rattle.std.specs.Prelude.{ℕ, ◌≡◌, List, [], length, slice_get, Optio
 use Rattle.std.specs.List.{flat_map}
 use Rattle.std.specs.declared.result.Result.TheVariants.{Ok, Err}
 use Rattle.wasm_spec_rules.specs.FeatureFlags.{features_of}
-use Rattle.wasm_validator_handles.specs.WasmValidator.WasmValidatorTypes.Shown.{shown_of}
+use Rattle.wasm_validator_handles.specs.WasmValidator.WasmValidatorTypes.ShownModules.{shown_of}
 use Rattle.wasm_validator_handles.specs.WasmValidator.Headline.{Headline}
 use Rattle.wasm_validator_handles.specs.WasmValidator.Lists.{DecidesEach}
-use Rattle.wasm_validator_handles.specs.WasmValidator.Standing.{Standing, fresh}
+use Rattle.wasm_validator_handles.specs.WasmValidator.ValidatorStages.{Standing, fresh}
 use Rattle.ruthvelka_c.specs.declared.report.Report.{Report}
 use Rattle.ruthvelka_c.specs.declared.report.TheConstants.{NOT_CHECKED}
 use Rattle.ruthvelka_c.specs.declared.lists.Bytes.{Bytes}

@@ -4,15 +4,15 @@ use Rattle.std.specs.Bool.{Decides}
 use Rattle.std.specs.Option.{option_map, option_and_then}
 use Rattle.std.specs.declared.alloc.Global.{Global}
 use Rattle.std.specs.declared.result.Result.TheVariants.{Ok, Err}
-use Rattle.wasm_spec_rules.specs.WasmSpec.Declared.{IsAncestor}
+use Rattle.wasm_spec_rules.specs.WasmSpec.SupertypeOrder.{IsAncestor}
 use Rattle.wasm_spec_rules.specs.WasmSpec.LinkMatching.{MatchesExtern}
 use Rattle.wasm_spec_rules.specs.WasmSpec.Syntax.{map_extern}
 use Rattle.wasm_validator_handles.specs.WasmValidator.WasmValidatorTypes.Entities.{Entity, IsEntityOver}
 use Rattle.wasm_validator_handles.specs.WasmValidator.WasmValidatorTypes.Rows.{all_imports}
-use Rattle.wasm_validator_handles.specs.WasmValidator.WasmValidatorTypes.Shown.{shown_of}
+use Rattle.wasm_validator_handles.specs.WasmValidator.WasmValidatorTypes.ShownModules.{shown_of}
 use Rattle.wasm_validator_handles.specs.WasmValidator.WasmValidatorTypes.declared.shown.Types as shown
-use Rattle.wasm_validator_handles.specs.WasmValidator.WasmValidatorTypes.WasmValidatorTypeList.Listing.{Listing, types_in}
-use Rattle.wasm_validator_handles.specs.WasmValidator.WasmValidatorTypes.WasmValidatorTypeList.Declares.{declares}
+use Rattle.wasm_validator_handles.specs.WasmValidator.WasmValidatorTypes.WasmValidatorTypeList.ListViews.{Listing, types_in}
+use Rattle.wasm_validator_handles.specs.WasmValidator.WasmValidatorTypes.WasmValidatorTypeList.DeclarationsById.{declares}
 use Rattle.wasm_validator_handles.specs.WasmValidator.WasmValidatorTypes.WasmValidatorTypeList.Lookups.{leads_to}
 use Rattle.ruthvelka_c.specs.declared.queries.Query.{Query}
 use Rattle.ruthvelka_c.specs.declared.queries.TheConstants.{IS_SUBTYPE, MAY_BE_GIVEN, YES, NO, UNKNOWN}

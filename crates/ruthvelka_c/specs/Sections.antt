@@ -2,7 +2,7 @@
 use Rattle.std.specs.Prelude.{ℕ, ◌≡◌, List}
 use Rattle.std.specs.declared.result.Result.{Result}
 use Rattle.std.specs.declared.result.Result.TheVariants.{Ok, Err}
-use Rattle.wasm_parser_ranges.specs.Telling.{TellsFound, TellsName}
+use Rattle.wasm_parser_ranges.specs.CallerArrays.{TellsFound, TellsName}
 use Rattle.wasm_parser_ranges.specs.declared.not_found.NotFound.{NotFound}
 use Rattle.wasm_parser_ranges.specs.declared.not_found.NotFound.TheVariants.{NoModule, NoName, OutOfMemory}
 use Rattle.ruthvelka_c.specs.declared.handles.TheConstants.{STATUS_DONE, STATUS_REFUSED, STATUS_NO_MEMORY}

@@ -1,7 +1,7 @@
 //! What is written into a caller's arrays, as far as there is room.
 
 ghost use Rattle.std.specs.Prelude.{◌≡◌, ◌<◌, ◌≤◌, ℕ, length, map, slice_index};
-ghost use Rattle.wasm_validator_handles.specs.WasmValidator.WasmValidatorTypes.Shown.{shown_by};
+ghost use Rattle.wasm_validator_handles.specs.WasmValidator.WasmValidatorTypes.ShownModules.{shown_by};
 ghost use Rattle.ruthvelka_c.specs.Arrays.{AreWritten, HasText};
 
 use std::alloc::Allocator;

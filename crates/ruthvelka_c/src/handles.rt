@@ -3,9 +3,9 @@
 ghost use Rattle.std.specs.Prelude.{◌≡◌, ◌⊎◌, length, nat_lt};
 ghost use Rattle.std.specs.Bool.{Decides};
 ghost use Rattle.std.specs.declared.option.Option.TheVariants.{None as Nothing, Some as Just};
-ghost use Rattle.wasm_validator_handles.specs.Keeping.{AreTypes, Answers, types_of, validator_of};
-ghost use Rattle.wasm_validator_handles.specs.WasmValidator.Standing.{fresh};
-ghost use Rattle.wasm_validator_handles.specs.WasmValidator.WasmValidatorTypes.Shown.{shown_by};
+ghost use Rattle.wasm_validator_handles.specs.HandleContents.{AreTypes, Answers, types_of, validator_of};
+ghost use Rattle.wasm_validator_handles.specs.WasmValidator.ValidatorStages.{fresh};
+ghost use Rattle.wasm_validator_handles.specs.WasmValidator.WasmValidatorTypes.ShownModules.{shown_by};
 ghost use Rattle.ruthvelka_c.specs.Arrays.{HasText};
 ghost use Rattle.ruthvelka_c.specs.Handles.{AreModuleHere, SaysLinked, SaysMatching, SaysSubtype, TellsAnswer, TellsIds, TellsOn, TellsReset, answer_of, error_status, refusal_status};
 ghost use Rattle.ruthvelka_c.specs.Reports.{flags};

@@ -2,7 +2,7 @@
 
 ghost use Rattle.std.specs.Prelude.{◌≡◌, ◌++◌, IfOk, OnOk, length, map};
 ghost use Rattle.std.specs.List.{flat_map};
-ghost use Rattle.wasm_validator_handles.specs.WasmValidator.WasmValidatorTypes.Shown.{shown_by};
+ghost use Rattle.wasm_validator_handles.specs.WasmValidator.WasmValidatorTypes.ShownModules.{shown_by};
 ghost use Rattle.ruthvelka_c.specs.Lists.{ReportsTell, bytes_of, answered_on, types_of, functions_of};
 ghost use Rattle.ruthvelka_c.specs.Reports.{Tells, function_ids};
 

@@ -6,7 +6,7 @@ ghost use Rattle.std.specs.Bool.{Decides};
 ghost use Rattle.std.specs.Option.{option_map};
 ghost use Rattle.wasm_validator_handles.specs.WasmValidator.WasmValidatorTypes.Entities.{entity_of};
 ghost use Rattle.wasm_validator_handles.specs.WasmValidator.WasmValidatorTypes.Rows.{all_imports};
-ghost use Rattle.wasm_validator_handles.specs.WasmValidator.WasmValidatorTypes.Shown.{shown_by};
+ghost use Rattle.wasm_validator_handles.specs.WasmValidator.WasmValidatorTypes.ShownModules.{shown_by};
 ghost use Rattle.ruthvelka_c.specs.Queries.{AnswersQuery, IsBelow, IsSaid, MayBeGiven, QueriesTell, Says, SaysBelow, SaysGiven};
 ghost use Rattle.ruthvelka_c.specs.Queries.{accepted, exported_at, imported_at, list_behind, type_at, types_at};
 

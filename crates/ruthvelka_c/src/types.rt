@@ -4,7 +4,7 @@
 ghost use Rattle.std.specs.Prelude.{◌≡◌, ◌≤◌, ◌<◌, length, slice_get, IfSome, Some};
 ghost use Rattle.std.specs.declared.option.Option.TheVariants.{Some as Just};
 ghost use Rattle.std.specs.Option.{option_map};
-ghost use Rattle.wasm_validator_handles.specs.Keeping.{types_of};
+ghost use Rattle.wasm_validator_handles.specs.HandleContents.{types_of};
 ghost use Rattle.wasm_validator_handles.specs.Signatures.{signature_by_ids, values_by_ids};
 ghost use Rattle.wasm_validator_handles.specs.Values.{numbers_of};
 ghost use Rattle.wasm_validator_handles.specs.declared.values.TheConstants.{MOST_IDS};

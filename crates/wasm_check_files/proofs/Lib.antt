@@ -1,3 +1,3 @@
-pub mod Told
-mod Room
-pub mod Named
+pub mod WorstStatuses
+mod TypeListRoom
+pub mod FilesByName

@@ -1,3 +1,3 @@
-pub mod Selecting
+pub mod FeatureWords
 pub mod Statuses
-pub mod Checked
+pub mod ExitStatuses

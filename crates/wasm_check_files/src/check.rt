@@ -3,7 +3,7 @@
 ghost use Rattle.std.specs.Prelude.{◌≡◌, ◌≤◌, ◌⊎◌, IfOk, map, string_bytes, Some, ⊤};
 ghost use Rattle.std.specs.List.{All};
 ghost use Rattle.wasm_check_reports.specs.WasmValidateFiles.Files.{IsRead, HasRoomForAll};
-ghost use Rattle.wasm_check_files.specs.Checked.{StatusTells, WereChecked, room_for};
+ghost use Rattle.wasm_check_files.specs.ExitStatuses.{StatusTells, WereChecked, room_for};
 ghost use Rattle.wasm_check_files.specs.Statuses.{IsWorst, status_at, status_of, status_of_error};
 
 use crate::progress::Progress;

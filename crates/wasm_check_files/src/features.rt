@@ -1,7 +1,7 @@
 //! The proposals that words on the command line name.
 
 ghost use Rattle.std.specs.Prelude.{◌≡◌, IfOk, IfErr, Some, map, option_map};
-ghost use Rattle.wasm_check_files.specs.Selecting.{changed, selected, wasm3, bits_named, is_named, flag_letter, IsUnknown};
+ghost use Rattle.wasm_check_files.specs.FeatureWords.{changed, selected, wasm3, bits_named, is_named, flag_letter, IsUnknown};
 
 use bitflags::Flag;
 pub use wasm_check_reports::files::validator::{Flags, WasmFeatures};

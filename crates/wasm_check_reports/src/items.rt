@@ -1,7 +1,7 @@
 //! The items of a module: its types with their ids, its imports and exports, and its index spaces.
 
 ghost use Rattle.std.specs.Prelude.{◌≡◌, ◌<◌};
-ghost use Rattle.wasm_validate_files.specs.WasmValidatorTypes.Shown.{shown_by};
+ghost use Rattle.wasm_validate_files.specs.WasmValidatorTypes.ShownModules.{shown_by};
 ghost use Rattle.wasm_check_reports.specs.Counts.{count_in};
 
 use crate::imports::write_imports;

@@ -1,3 +1,3 @@
 pub mod TableHeads
-pub mod Left
+pub mod Remainders
 pub mod Cited

@@ -4,7 +4,7 @@ use Rattle.std.specs.Option.{option_map, option_and_then}
 use Rattle.wasm_readers.specs.WasmSpec.Syntax.{Table}
 use Rattle.wasm_readers.specs.WasmSpec.BinarySections.{TableEntry, table_entry_at}
 use Rattle.wasm_readers.specs.WasmReadersTypes.WasmReadersValues.declared.indices.UnpackedIndex.{UnpackedIndex}
-use Rattle.wasm_readers.specs.Written.{written}
+use Rattle.wasm_readers.specs.WrittenIndices.{written}
 use Rattle.wasm_readers.specs.Tables.{ExpressionReading, Head, table_head_at, table_behind}
 use Rattle.wasm_readers.proofs.Tables.{heads_begin_tables}
 

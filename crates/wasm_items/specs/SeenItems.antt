@@ -5,7 +5,7 @@ use Rattle.wasm_readers.specs.WasmSpec.Values.{u32_at}
 use Rattle.wasm_readers.specs.WasmReadersTypes.SeenExterns.{table_of, global_of}
 use Rattle.wasm_readers.specs.WasmReadersTypes.WasmReadersValues.SeenValues.{ref_of}
 use Rattle.wasm_readers.specs.WasmReadersTypes.WasmReadersValues.declared.indices.UnpackedIndex.{UnpackedIndex}
-use Rattle.wasm_readers.specs.Written.{written}
+use Rattle.wasm_readers.specs.WrittenIndices.{written}
 use Rattle.wasm_operators.specs.Expressions.{expression_at}
 use Rattle.wasm_operators.specs.SeenLists.{listed}
 use Rattle.wasm_items.specs.SeenReaders.{expression_of}

@@ -3,10 +3,10 @@
 ghost use Rattle.std.specs.Prelude.{◌≡◌, ◌≤◌, Some, None, IfOk, IfErr, OnErr};
 ghost use Rattle.wasm_readers.specs.WasmReadersBytes.Reader.{SameInput, position_in, rest, RefusedFrom, place_of_next};
 ghost use Rattle.wasm_readers.specs.WasmSpec.BinarySections.{data_mode_from};
-ghost use Rattle.wasm_readers.specs.Written.{written};
+ghost use Rattle.wasm_readers.specs.WrittenIndices.{written};
 ghost use Rattle.wasm_operators.specs.Expressions.{expression_at};
 ghost use Rattle.wasm_operators.specs.WasmOperatorsPlain.Refusals.{RefusedBetween};
-ghost use Rattle.wasm_items.specs.Written.{with_index, data_item_at};
+ghost use Rattle.wasm_items.specs.ItemExpressions.{with_index, data_item_at};
 ghost use Rattle.wasm_items.specs.SeenItems.{written_mode_of, data_mode_of, data_of};
 
 use crate::const_expr::{ConstExpr, read_const_expr};

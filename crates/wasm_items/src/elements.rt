@@ -5,11 +5,11 @@ ghost use Rattle.wasm_readers.specs.WasmReadersBytes.Reader.{SameInput, position
 ghost use Rattle.wasm_readers.specs.WasmSpec.BinaryTypes.{flags_at};
 ghost use Rattle.wasm_readers.specs.WasmSpec.BinarySections.{functions_with, expressions_with, element_from, element_at};
 ghost use Rattle.wasm_readers.specs.WasmReadersTypes.WasmReadersValues.SeenValues.{ref_of};
-ghost use Rattle.wasm_readers.specs.Written.{written};
+ghost use Rattle.wasm_readers.specs.WrittenIndices.{written};
 ghost use Rattle.wasm_operators.specs.Expressions.{expression_at};
 ghost use Rattle.wasm_operators.specs.WasmOperatorsPlain.Refusals.{RefusedBetween};
 ghost use Rattle.wasm_readers.specs.WasmSpec.Values.{u32_at, list_at};
-ghost use Rattle.wasm_items.specs.Written.{active_at, written_type_at};
+ghost use Rattle.wasm_items.specs.ItemExpressions.{active_at, written_type_at};
 ghost use Rattle.wasm_items.specs.SeenItems.{mode_of, element_parts_of, element_of};
 
 use crate::const_expr::{ConstExpr, read_const_expr};

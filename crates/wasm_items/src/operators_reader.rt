@@ -2,7 +2,7 @@
 
 ghost use Rattle.std.specs.Prelude.{◌≡◌, ◌≤◌, ◌<◌, ◌==◌, length, Some, None, false, IfOk, IfErr, OnOk, OnErr};
 ghost use Rattle.wasm_readers.specs.WasmReadersBytes.Reader.{SameInput, position_in, rest, RefusedFrom, place_of_next};
-ghost use Rattle.wasm_readers.specs.Written.{written};
+ghost use Rattle.wasm_readers.specs.WrittenIndices.{written};
 ghost use Rattle.wasm_operators.specs.Instructions.{instruction_at};
 ghost use Rattle.wasm_operators.specs.SeenOperators.{operator_of};
 ghost use Rattle.wasm_items.specs.SeenReaders.{operators_left, operators_to_come, operators_done};
@@ -122,7 +122,7 @@ impl<'a> Iterator for OperatorsIterator<'a> {
 
     ghost remaining = { λ s. at_most (most_operators s) };
 
-    #[tactic(auto, using(crate::proofs::Left::shorter))]
+    #[tactic(auto, using(crate::proofs::Remainders::shorter))]
     fn next(&mut self) -> Option<Result<(Operator<'a>, u64), Refusal>> {
         if self.done || self.operators.eof() {
             return None;

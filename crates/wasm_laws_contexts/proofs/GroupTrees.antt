@@ -18,14 +18,14 @@ use Rattle.wasm_readers_types.specs.WasmReadersValues.declared.indices.UnpackedI
 use Rattle.wasm_readers_types.specs.WasmReadersValues.declared.indices.UnpackedIndex.TheVariants.{Module, RecGroup, Id}
 use Rattle.wasm_readers_types.specs.declared.types.SubType.{SubType}
 use Rattle.wasm_validator_type_groups.specs.Groups.{all_in, first_of, IsInGroup}
-use Rattle.wasm_validator_type_groups.proofs.Flat.{first_of-stays, first_of-all}
+use Rattle.wasm_validator_type_groups.proofs.FlatGroups.{first_of-stays, first_of-all}
 use Rattle.wasm_validator_type_groups.proofs.Places.{get-left, get-map, split-at}
-use Rattle.wasm_validator_type_groups.proofs.Standing.{get-member}
-use Rattle.wasm_validator_type_list.specs.Listable.{IsKnown, AreListable}
+use Rattle.wasm_validator_type_groups.proofs.MemberPlaces.{get-member}
+use Rattle.wasm_validator_type_list.specs.GroupOrder.{IsKnown, AreListable}
 use Rattle.wasm_validator_type_list.specs.DefTypes.{listed_ref, listed_sub, listed_group, def_types, tree_behind}
 use Rattle.wasm_validator_type_list.proofs.DefTypes.{place_in, length-def_types, front}
 use Rattle.wasm_validator_type_list.proofs.Lookups.{group_found, first_of-next}
-use Rattle.wasm_validator_type_list.proofs.Once.{members_of_new}
+use Rattle.wasm_validator_type_list.proofs.DistinctGroups.{members_of_new}
 use Rattle.wasm_laws_contexts.specs.GroupTrees.{member_in, IsGroupOf, GroupsAreRecursiveTypes}
 
 module _ {A : Type 0} (c : Bool) (gs : List (List (SubType A))) (k : ℕ) (g : List (SubType A)) (there : slice_get gs k ≡ Some g) where

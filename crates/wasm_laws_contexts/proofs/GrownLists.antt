@@ -8,7 +8,7 @@ use Rattle.wasm_spec_rules.specs.Contexts.{declares_at}
 use Rattle.wasm_readers_types.specs.SeenTypes.{sub_of}
 use Rattle.wasm_readers_types.specs.WasmReadersValues.declared.indices.UnpackedIndex.{UnpackedIndex}
 use Rattle.wasm_validator_type_list.specs.DefTypes.{def_types}
-use Rattle.wasm_validator_type_list.specs.Declares.{subs_by_ids}
+use Rattle.wasm_validator_type_list.specs.DeclarationsById.{subs_by_ids}
 use Rattle.wasm_validator_core_resources.specs.ListContexts.{under_ids, list_declares}
 use Rattle.wasm_validator_core_resources.specs.IndexContexts.{id_of}
 use Rattle.wasm_laws_contexts.specs.ListedTypes.{id_in, types_declare}

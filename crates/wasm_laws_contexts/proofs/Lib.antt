@@ -1,10 +1,10 @@
 pub mod WorldsAlone
 pub mod ShortChains
-pub mod Counted
-pub mod Inside
-pub mod Numbered
-pub mod AcceptedNumbered
-pub mod InRange
+pub mod NumbersBelow
+pub mod IdReferences
+pub mod NumbersAndIds
+pub mod AcceptedTypeNumbers
+pub mod IndexRanges
 pub mod ModuleOverIds
 pub mod ListedTypes
 pub mod GrownLists

@@ -22,14 +22,14 @@ use Rattle.wasm_readers_types.specs.WasmReadersValues.declared.indices.UnpackedI
 use Rattle.wasm_readers_types.specs.WasmReadersValues.declared.indices.UnpackedIndex.TheVariants.{Module, RecGroup, Id}
 use Rattle.wasm_readers_types.specs.declared.types.SubType.{SubType}
 use Rattle.wasm_validator_type_groups.specs.Groups.{first_of}
-use Rattle.wasm_validator_type_list.specs.Listable.{IsKnown, AreListable}
+use Rattle.wasm_validator_type_list.specs.GroupOrder.{IsKnown, AreListable}
 use Rattle.wasm_validator_type_list.specs.Lookups.{leads_to}
 use Rattle.wasm_validator_type_list.specs.DefTypes.{def_types}
-use Rattle.wasm_validator_type_list.specs.Declares.{subs_by_ids, declares}
-use Rattle.wasm_validator_type_list.proofs.Declares.{IsDeclared, declared_by}
+use Rattle.wasm_validator_type_list.specs.DeclarationsById.{subs_by_ids, declares}
+use Rattle.wasm_validator_type_list.proofs.IdDeclarations.{IsDeclared, declared_by}
 use Rattle.wasm_validator_type_list.proofs.Lookups.{first_of-next}
 use Rattle.wasm_validator_type_list.proofs.DefTypes.{length-def_types, first_of-within}
-use Rattle.wasm_validator_type_list.proofs.Joined.{length-subs, types_declare_what_ids_declare}
+use Rattle.wasm_validator_type_list.proofs.IdsAndTypes.{length-subs, types_declare_what_ids_declare}
 use Rattle.wasm_validator_core_resources.specs.ListContexts.{under_ids, list_declares}
 use Rattle.wasm_validator_core_resources.specs.IndexContexts.{id_of}
 use Rattle.wasm_laws_contexts.specs.ListedTypes.{same_code, same_type, number_in, id_in, types_declare, ListsDeclareTheirTypes}

@@ -12,26 +12,26 @@ use Rattle.wasm_spec_rules.specs.Parts.{Parts}
 use Rattle.wasm_spec_rules.specs.IndexSpaces.{IndexSpaces, imported, functions_in, nowhere, type_at}
 use Rattle.wasm_spec_rules.specs.Contexts.{Context, exact_in, is_exact, map_context, AreFirst}
 use Rattle.wasm_readers_types.specs.WasmReadersValues.declared.indices.UnpackedIndex.{UnpackedIndex}
-use Rattle.wasm_validator_type_list.specs.Listing.{Listing}
-use Rattle.wasm_validator_type_list.specs.Listable.{AreListable}
+use Rattle.wasm_validator_type_list.specs.ListViews.{Listing}
+use Rattle.wasm_validator_type_list.specs.GroupOrder.{AreListable}
 use Rattle.wasm_validator_type_list.specs.DefTypes.{def_types}
 use Rattle.wasm_validator_type_list.proofs.Lookups.{group_found}
 use Rattle.wasm_validator_canonical.specs.Indices.{use_of_index, canonical_index}
 use Rattle.wasm_validator_canonical.specs.Sections.{written, StandsFor}
 use Rattle.wasm_validator_core_resources.specs.WasmValidatorTypes.Spaces.{Spaces}
-use Rattle.wasm_operator_steps.specs.Bodies.{map_local}
-use Rattle.wasm_operator_steps.specs.Steps.{is_typed}
+use Rattle.wasm_spec_steps.specs.Bodies.{map_local}
+use Rattle.wasm_spec_steps.specs.Steps.{is_typed}
 use Rattle.wasm_operators.specs.Maps.{map_block}
 use Rattle.wasm_validator_core_resources.specs.ListContexts.{list_declares}
 use Rattle.wasm_validator_core_resources.specs.IndexContexts.{id_of, same_index}
 use Rattle.wasm_validator_core_resources.specs.ModuleContexts.{exact_flags}
-use Rattle.wasm_laws_contexts.specs.Declaring.{with_declared}
-use Rattle.wasm_laws_contexts.specs.Numbered.{AreNumbered, same_number, identity_at}
+use Rattle.wasm_laws_contexts.specs.ContextWorlds.{with_declared}
+use Rattle.wasm_laws_contexts.specs.TypeNumbers.{AreNumbered, same_number, identity_at}
 use Rattle.wasm_laws_contexts.specs.ModuleOverIds.{ShowSpaces, numbered_context, listed_context, within, IsOverIds, ModulesAreOverIds}
 use Rattle.wasm_laws_contexts.proofs.WorldsAlone.{verdicts_rename_in_worlds}
-use Rattle.wasm_laws_contexts.proofs.AcceptedNumbered.{all_of}
-use Rattle.wasm_laws_contexts.proofs.InRange.{tables-agree, globals-agree, zip_at, zip-length}
-use Rattle.wasm_laws_contexts.proofs.Numbered.{place_of, type-back, ids_rename_numbers}
+use Rattle.wasm_laws_contexts.proofs.AcceptedTypeNumbers.{all_of}
+use Rattle.wasm_laws_contexts.proofs.IndexRanges.{tables-agree, globals-agree, zip_at, zip-length}
+use Rattle.wasm_laws_contexts.proofs.NumbersAndIds.{place_of, type-back, ids_rename_numbers}
 
 -- which functions are exactly of their type
 pub defined-exact : (xs : List ℕ) → exact_flags xs [] ≡ map is_exact xs

@@ -2,10 +2,10 @@
 use Rattle.std.proofs.Common.{◌≡◌, refl, sym, ap, ◌∙◌, ℕ, zero, suc, ◌<◌, ◌≤◌, Bool, true, false, ◌||◌, List, Option, Some, None, option_map, arith}
 use Rattle.std.proofs.lemmas.Option.{slice_get-map}
 use Rattle.wasm_spec.specs.Syntax.{Sub, map_sub}
-use Rattle.wasm_spec.specs.Declared.{supertype}
+use Rattle.wasm_spec.specs.SupertypeOrder.{supertype}
 use Rattle.wasm_spec_rules.specs.Attempts.{◌>>=◌, passes}
 use Rattle.wasm_spec_rules.specs.Worlds.{declared_in, is_below}
-use Rattle.wasm_operator_steps.proofs.Attempts.{bind-map}
+use Rattle.wasm_spec_steps.proofs.Attempts.{bind-map}
 
 or-false : (b : Bool) → (b || false) ≡ b
 or-false true = refl

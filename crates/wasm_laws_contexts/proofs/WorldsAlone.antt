@@ -5,16 +5,16 @@ use Rattle.wasm_spec.specs.MatchingTests.{World}
 use Rattle.wasm_operators.specs.Instructions.{Instruction}
 use Rattle.wasm_spec_rules.specs.Attempts.{◌>>=◌, guard}
 use Rattle.wasm_spec_rules.specs.Worlds.{world_of}
-use Rattle.wasm_operator_steps.specs.Bodies.{Surroundings, map_surroundings}
-use Rattle.wasm_operator_steps.specs.Machine.{State, map_state}
-use Rattle.wasm_operator_steps.specs.Actions.{Action}
-use Rattle.wasm_operator_steps.specs.Shapes.{shape_of}
-use Rattle.wasm_operator_steps.specs.Meanings.{act, run}
-use Rattle.wasm_operator_steps.specs.Steps.{actions_of, is_open, is_finished, start, step_in, steps_in}
-use Rattle.wasm_operator_steps.specs.Renaming.{Renames}
-use Rattle.wasm_operator_steps.proofs.Attempts.{passes-map}
-use Rattle.wasm_operator_steps.proofs.StepsRenamed.{is_finished-map, step_in-map, steps_in-map}
-use Rattle.wasm_laws_contexts.specs.Declaring.{declaring, StepsSeeWorldsAlone, StepsRenameInWorlds, VerdictsRenameInWorlds}
+use Rattle.wasm_spec_steps.specs.Bodies.{Surroundings, map_surroundings}
+use Rattle.wasm_spec_steps.specs.Machine.{State, map_state}
+use Rattle.wasm_spec_steps.specs.Actions.{Action}
+use Rattle.wasm_spec_steps.specs.Shapes.{shape_of}
+use Rattle.wasm_spec_steps.specs.Meanings.{act, run}
+use Rattle.wasm_spec_steps.specs.Steps.{actions_of, is_open, is_finished, start, step_in, steps_in}
+use Rattle.wasm_spec_steps.specs.Renaming.{Renames}
+use Rattle.wasm_spec_steps.proofs.Attempts.{passes-map}
+use Rattle.wasm_spec_steps.proofs.StepsRenamed.{is_finished-map, step_in-map, steps_in-map}
+use Rattle.wasm_laws_contexts.specs.ContextWorlds.{declaring, StepsSeeWorldsAlone, StepsRenameInWorlds, VerdictsRenameInWorlds}
 
 module _ {R : Type 0} (W : World R) (B : Surroundings R) (ds : List (R × Sub R)) where
   act-alone : (a : Action) (s : State R) → act W (declaring ds B) a s ≡ act W B a s

@@ -7,7 +7,7 @@ use Rattle.wasm_spec.specs.Closing.{start_unless}
 use Rattle.wasm_spec.specs.TypeLists.{resolve_listed}
 use Rattle.wasm_readers_types.specs.declared.types.SubType.{SubType}
 use Rattle.wasm_validator_type_groups.specs.Groups.{all_in, first_of, IsInGroup}
-use Rattle.wasm_validator_type_list.specs.Listable.{AreListable}
+use Rattle.wasm_validator_type_list.specs.GroupOrder.{AreListable}
 use Rattle.wasm_validator_type_list.specs.DefTypes.{listed_sub, def_types}
 
 module _ {A : Type 0} where

@@ -1,6 +1,6 @@
 pub use Rattle.wasm_validator_core_resources.specs as WasmValidatorCoreResources
-pub mod Declaring
-pub mod Numbered
+pub mod ContextWorlds
+pub mod TypeNumbers
 pub mod ModuleOverIds
 pub mod ListedTypes
 pub mod GrownLists

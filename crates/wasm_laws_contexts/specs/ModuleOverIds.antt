@@ -14,19 +14,19 @@ use Rattle.wasm_spec_rules.specs.Parts.{Parts}
 use Rattle.wasm_spec_rules.specs.IndexSpaces.{IndexSpaces, imported, functions_in, IsRefInRange, IsValInRange}
 use Rattle.wasm_spec_rules.specs.Contexts.{Context, exact_in, context_over, map_context, AreFirst}
 use Rattle.wasm_readers_types.specs.WasmReadersValues.declared.indices.UnpackedIndex.{UnpackedIndex}
-use Rattle.wasm_validator_type_list.specs.Listing.{Listing}
-use Rattle.wasm_validator_type_list.specs.Listable.{AreListable}
+use Rattle.wasm_validator_type_list.specs.ListViews.{Listing}
+use Rattle.wasm_validator_type_list.specs.GroupOrder.{AreListable}
 use Rattle.wasm_validator_type_list.specs.DefTypes.{def_types}
 use Rattle.wasm_validator_canonical.specs.Indices.{canonical_index}
 use Rattle.wasm_validator_canonical.specs.Sections.{written, StandsFor}
 use Rattle.wasm_validator_core_resources.specs.WasmValidatorTypes.Spaces.{Spaces}
-use Rattle.wasm_operator_steps.specs.Bodies.{Local, Surroundings, map_local}
-use Rattle.wasm_operator_steps.specs.Steps.{is_typed}
+use Rattle.wasm_spec_steps.specs.Bodies.{Local, Surroundings, map_local}
+use Rattle.wasm_spec_steps.specs.Steps.{is_typed}
 use Rattle.wasm_validator_core_resources.specs.ListContexts.{list_declares}
 use Rattle.wasm_validator_core_resources.specs.IndexContexts.{id_of, same_index}
 use Rattle.wasm_validator_core_resources.specs.ModuleContexts.{module_context}
-use Rattle.wasm_laws_contexts.specs.Declaring.{with_declared}
-use Rattle.wasm_laws_contexts.specs.Numbered.{AreNumbered, same_number, identity_at}
+use Rattle.wasm_laws_contexts.specs.ContextWorlds.{with_declared}
+use Rattle.wasm_laws_contexts.specs.TypeNumbers.{AreNumbered, same_number, identity_at}
 
 -- The lists of a module show its index spaces: each type under an id that stands for it in these types of a list, each function and tag
 -- with its type's index, each table, memory and global with its type, where ids stand for type indices, and which imported functions are

@@ -7,8 +7,8 @@
 ghost use Rattle.wasm_laws_contexts.specs.ListedTypes.{ListsDeclareTheirTypes};
 ghost use Rattle.wasm_laws_contexts.specs.GrownLists.{FirstTypesStayFirst};
 ghost use Rattle.wasm_laws_contexts.specs.GroupTrees.{GroupsAreRecursiveTypes};
-ghost use Rattle.wasm_laws_contexts.specs.Declaring.{StepsSeeWorldsAlone, StepsRenameInWorlds, VerdictsRenameInWorlds};
-ghost use Rattle.wasm_laws_contexts.specs.Numbered.{AcceptedTypesAreNumbered, IdsRenameNumbers};
+ghost use Rattle.wasm_laws_contexts.specs.ContextWorlds.{StepsSeeWorldsAlone, StepsRenameInWorlds, VerdictsRenameInWorlds};
+ghost use Rattle.wasm_laws_contexts.specs.TypeNumbers.{AcceptedTypesAreNumbered, IdsRenameNumbers};
 ghost use Rattle.wasm_laws_contexts.specs.ModuleOverIds.{ModulesAreOverIds};
 
 /// One step and a run of steps are the same whatever the context declares: what types declare is

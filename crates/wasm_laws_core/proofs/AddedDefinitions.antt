@@ -22,10 +22,10 @@ use Rattle.wasm_validator_core.specs.WasmValidatorCanonical.Indices.{canonical_i
 use Rattle.wasm_validator_core.specs.WasmValidatorCanonical.Sections.{written}
 use Rattle.wasm_validator_core.specs.WasmValidatorChecks.Items.{is_function, is_valid_defined_table, is_valid_memory, is_valid_tag}
 use Rattle.wasm_validator_core.specs.WasmValidatorChecks.Laws.{Stand}
-use Rattle.wasm_validator_core.proofs.WasmValidatorChecks.Decided.{functions_are_decided, defined_tables_are_decided, memories_are_decided, tags_are_decided}
+use Rattle.wasm_validator_core.proofs.WasmValidatorChecks.ItemTests.{functions_are_decided, defined_tables_are_decided, memories_are_decided, tags_are_decided}
 use Rattle.wasm_validator_types.specs.Spaces.{Spaces}
 use Rattle.wasm_validator_core.specs.Items.{add_function, add_table, add_memory, add_tag}
-use Rattle.wasm_laws_core.specs.Shown.{spaces_of, listed_table}
+use Rattle.wasm_laws_core.specs.ModuleParts.{spaces_of, listed_table}
 use Rattle.wasm_laws_core.specs.Lists.{has_no_init, add_functions, add_tables, add_memories, add_tags}
 use Rattle.wasm_laws_core.specs.Laws.{FunctionsAreAdded, TablesAreAdded, MemoriesAreAdded, TagsAreAdded}
 use Rattle.wasm_laws_core.proofs.Fronts.{front}

@@ -24,7 +24,7 @@ use Rattle.wasm_validator_types.specs.Entities.{Entity}
 use Rattle.wasm_validator_types.specs.Spaces.{Spaces, is_exported}
 use Rattle.wasm_validator_core.specs.Items.{grown, entity_size, is_short, export_movable, add_exporting, add_export}
 use Rattle.wasm_laws_core.specs.Exports.{AreApart, HasSpaces, FitExports, with_exports, ExportsAreAddedBehind}
-use Rattle.wasm_laws_core.specs.Shown.{exported_as, export_row, exported_row, spaces_of}
+use Rattle.wasm_laws_core.specs.ModuleParts.{exported_as, export_row, exported_row, spaces_of}
 use Rattle.wasm_laws_core.specs.Lists.{add_exports}
 use Rattle.wasm_laws_core.specs.Laws.{ExportsAreAdded}
 use Rattle.wasm_laws_core.proofs.Steps.{if_map, passed, law_of_verdict, name_decided}

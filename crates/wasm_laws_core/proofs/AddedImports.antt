@@ -21,19 +21,19 @@ use Rattle.wasm_validator_core.specs.WasmValidatorCanonical.Indices.{canonical_i
 use Rattle.wasm_validator_core.specs.WasmValidatorCanonical.Sections.{written}
 use Rattle.wasm_validator_core.specs.WasmValidatorChecks.Items.{is_importable}
 use Rattle.wasm_validator_core.specs.WasmValidatorChecks.Laws.{Stand}
-use Rattle.wasm_validator_core.proofs.WasmValidatorChecks.Decided.{externs_are_decided}
+use Rattle.wasm_validator_core.proofs.WasmValidatorChecks.ItemTests.{externs_are_decided}
 use Rattle.wasm_validator_types.specs.Spaces.{Spaces, with_import}
 use Rattle.wasm_validator_types.specs.Entities.{Entity}
 use Rattle.wasm_validator_core.specs.Items as machine
 use Rattle.wasm_validator_core.specs.Items.{function_size, entity_size, grown, with_imported, with_named, is_short, add_importing, add_import}
-use Rattle.wasm_laws_core.specs.Shown.{entity_in, listed_table, listed_global, spaces_of}
+use Rattle.wasm_laws_core.specs.ModuleParts.{entity_in, listed_table, listed_global, spaces_of}
 use Rattle.wasm_laws_core.specs.Lists.{only_types, only_imports, add_imports}
 use Rattle.wasm_laws_core.specs.Laws.{AreValidImports, ImportsAreAdded}
 use Rattle.wasm_laws_core.specs.Imports.{RoomIn, FitsImport, with_kind, with_entry, OneImportIsAdded}
 use Rattle.wasm_laws_core.proofs.Steps.{if_map, passed, law_of_verdict, names_decided}
 use Rattle.wasm_laws_core.proofs.Fronts.{All-front, All-last}
 use Rattle.wasm_laws_core.proofs.Sizes.{valid_typed, entity_size_is}
-use Rattle.wasm_laws_core.proofs.Rooms.{has_room, room_decided}
+use Rattle.wasm_laws_core.proofs.ImportLimits.{has_room, room_decided}
 use Rattle.wasm_laws_core.proofs.ImportRows.{rows-push}
 
 plus_zero : (n : ℕ) → n + 0 ≡ n

@@ -16,7 +16,7 @@ use Rattle.wasm_spec_rules.specs.Limits.{most_functions, most_tables, most_memor
 use Rattle.wasm_spec_rules.proofs.Tests.{then_some}
 use Rattle.wasm_validator_core.specs.WasmValidatorChecks.Laws.{Stand}
 use Rattle.wasm_validator_types.specs.Spaces.{Spaces}
-use Rattle.wasm_laws_core.specs.Shown.{spaces_of}
+use Rattle.wasm_laws_core.specs.ModuleParts.{spaces_of}
 use Rattle.wasm_laws_core.specs.Lists.{only_types, only_imports, up_to_functions, up_to_tables, up_to_memories, up_to_tags, listed_parts, add_imports, add_functions, add_tables, add_memories, add_tags, add_exports, add_lists, HasNoInitializer, AreValidLists}
 use Rattle.wasm_laws_core.specs.Laws.{AreValidImports, ImportsAreAdded, ExportsAreAdded, ValidListsAreAdded}
 use Rattle.wasm_laws_core.proofs.Fronts.{front, alone}

@@ -19,7 +19,7 @@ use Rattle.wasm_validator_types.specs.Entities.{Entity}
 use Rattle.wasm_validator_types.specs.Spaces.{Spaces}
 use Rattle.wasm_validator_core.specs.Items.{entity_size, function_entity, exported_function, exported_table, exported_memory, exported_global, exported_tag, exported_entity}
 use Rattle.wasm_laws_core.specs.Exports.{HasSpaces}
-use Rattle.wasm_laws_core.specs.Shown.{listed_table, listed_global, entity_in, as_exported, exported_as, export_row, export_rows}
+use Rattle.wasm_laws_core.specs.ModuleParts.{listed_table, listed_global, entity_in, as_exported, exported_as, export_row, export_rows}
 use Rattle.wasm_laws_core.proofs.Sizes.{IsTyped, function_size_is, entity_size_is}
 
 -- behind the imported functions each is exactly of its type, so that exports are the same

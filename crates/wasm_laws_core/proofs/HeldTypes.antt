@@ -21,8 +21,8 @@ use Rattle.wasm_validator_core.specs.WasmValidatorCanonical.Indices.{use_of_inde
 use Rattle.wasm_readers_types.specs.Entities.{Entity, IsIdOfOne, IsEntityOver}
 use Rattle.wasm_validator_types.specs.Rows.{all_imports}
 use Rattle.wasm_validator_types.specs.Rows as rows
-use Rattle.wasm_laws_core.specs.Held.{AreOver, ShownTypesAreHeld}
-use Rattle.wasm_laws_core.specs.Shown.{listed, listed_table, listed_global, listed_element, entity_in, names_of, has_names, first_pairs, import_row, import_rows, as_exported, exported_as, export_row, exported_row, export_rows, exact_functions, spaces_of}
+use Rattle.wasm_laws_core.specs.ShownTypeIds.{AreOver, ShownTypesAreHeld}
+use Rattle.wasm_laws_core.specs.ModuleParts.{listed, listed_table, listed_global, listed_element, entity_in, names_of, has_names, first_pairs, import_row, import_rows, as_exported, exported_as, export_row, exported_row, export_rows, exact_functions, spaces_of}
 
 -- a function type's index is one of a type
 typed_within : (types : List DefType) (x : ℕ) (o : Option DefType) → slice_get types x ≡ o → IsTrue (is_some (option_and_then (λ (s : Sub DefType). signature s.comp) (option_and_then declared o))) → x < length types

@@ -10,10 +10,10 @@ use Rattle.std.proofs.lemmas.List.{map-append}
 use Rattle.std.proofs.lemmas.List.Elements.{filter-append}
 use Rattle.wasm_spec.specs.BinaryModules.{Import}
 use Rattle.wasm_spec_rules.proofs.Tests.{when, unless}
-use Rattle.wasm_validator_core.proofs.WasmValidatorCanonical.Canonical.{and_left, and_right}
+use Rattle.wasm_validator_core.proofs.WasmValidatorCanonical.CanonicalTypes.{and_left, and_right}
 use Rattle.wasm_validator_types.specs.Spaces.{with_import, is_pair}
 use Rattle.wasm_validator_types.specs.Entities.{Entity}
-use Rattle.wasm_laws_core.specs.Shown.{entity_in, names_of, has_names, first_pairs, import_row, import_rows}
+use Rattle.wasm_laws_core.specs.ModuleParts.{entity_in, names_of, has_names, first_pairs, import_row, import_rows}
 
 abbrev Pair : Type 0
 Pair = List ℕ × List ℕ

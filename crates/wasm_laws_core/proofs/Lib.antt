@@ -3,7 +3,7 @@ pub use Rattle.wasm_validator_core.proofs.WasmValidatorChecks as WasmValidatorCh
 pub mod Steps
 pub mod Fronts
 pub mod Sizes
-pub mod Rooms
+pub mod ImportLimits
 pub mod ImportRows
 pub mod AddedImports
 pub mod AddedItems
@@ -12,5 +12,5 @@ pub mod ExportedEntities
 pub mod ExportNames
 pub mod AddedExports
 pub mod AllLists
-pub mod Starts
+pub mod StartFunctions
 pub mod HeldTypes

@@ -10,7 +10,7 @@ use Rattle.wasm_validator_core.specs.WasmValidatorCanonical.Arities.{arity, arit
 use Rattle.wasm_validator_core.proofs.WasmValidatorCanonical.Arities.{ids_keep_arities}
 use Rattle.wasm_validator_core.specs.WasmValidatorChecks.Laws.{Stand}
 use Rattle.wasm_validator_core.specs.Items.{function_size, entity_size}
-use Rattle.wasm_laws_core.specs.Shown.{entity_in}
+use Rattle.wasm_laws_core.specs.ModuleParts.{entity_in}
 
 -- functions and tags are of function types
 abbrev pub IsTyped : List DefType → Extern ℕ → Type 0

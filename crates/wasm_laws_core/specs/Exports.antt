@@ -13,7 +13,7 @@ use Rattle.wasm_validator_core.specs.WasmValidatorChecks.Laws.{Stand}
 use Rattle.wasm_validator_types.specs.Entities.{Entity}
 use Rattle.wasm_validator_types.specs.Spaces.{Spaces}
 use Rattle.wasm_laws_core.specs.Lists.{add_exports}
-use Rattle.wasm_laws_core.specs.Shown.{listed_table, listed_global, export_rows}
+use Rattle.wasm_laws_core.specs.ModuleParts.{listed_table, listed_global, export_rows}
 
 -- the name of an export that is there
 abbrev pub row_name : List ℕ × Entity → List ℕ

@@ -13,7 +13,7 @@ use Rattle.wasm_validator_core.specs.WasmValidatorChecks.Laws.{Stand}
 use Rattle.wasm_validator_core.specs.WasmValidatorCanonical.Sections.{written}
 use Rattle.wasm_validator_types.specs.Spaces.{Spaces, with_import}
 use Rattle.wasm_validator_core.specs.Items.{add_import}
-use Rattle.wasm_laws_core.specs.Shown.{entity_in, listed_table, listed_global}
+use Rattle.wasm_laws_core.specs.ModuleParts.{entity_in, listed_table, listed_global}
 
 -- so many of each kind, with an external type, keep their limits
 pub record HasRoom (F : Features) (functions tables memories globals tags : ℕ) (x : Extern ℕ) : Type 0 where

@@ -17,7 +17,7 @@ use Rattle.wasm_spec_rules.specs.Limits.{most_functions, most_tables, most_memor
 use Rattle.wasm_validator_core.specs.WasmValidatorChecks.Laws.{Stand}
 use Rattle.wasm_validator_types.specs.Spaces.{Spaces}
 use Rattle.wasm_validator_core.specs.Items.{is_startable}
-use Rattle.wasm_laws_core.specs.Shown.{spaces_of}
+use Rattle.wasm_laws_core.specs.ModuleParts.{spaces_of}
 use Rattle.wasm_laws_core.specs.Lists.{only_types, only_imports, has_no_init, add_imports, add_functions, add_tables, add_memories, add_tags, add_exports, add_lists, HasNoInitializer, AreValidLists, listed_parts}
 
 -- Imports keep their rules and limits.

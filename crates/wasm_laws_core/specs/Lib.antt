@@ -2,9 +2,9 @@ pub use Rattle.wasm_validator_types.specs as WasmValidatorTypes
 pub use Rattle.wasm_validator_core.specs.WasmValidatorCanonical as WasmValidatorCanonical
 pub use Rattle.wasm_validator_core.specs.WasmValidatorChecks as WasmValidatorChecks
 pub use Rattle.wasm_validator_core.specs as WasmValidatorCore
-pub mod Shown
+pub mod ModuleParts
 pub mod Lists
 pub mod Laws
 pub mod Imports
 pub mod Exports
-pub mod Held
+pub mod ShownTypeIds

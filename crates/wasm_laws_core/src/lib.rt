@@ -2,7 +2,7 @@
 #![tactic(auto)]
 
 ghost use Rattle.wasm_laws_core.specs.Exports.{ExportsAreAddedBehind};
-ghost use Rattle.wasm_laws_core.specs.Held.{ShownTypesAreHeld};
+ghost use Rattle.wasm_laws_core.specs.ShownTypeIds.{ShownTypesAreHeld};
 ghost use Rattle.wasm_laws_core.specs.Imports.{OneImportIsAdded};
 ghost use Rattle.wasm_laws_core.specs.Laws.{ImportsAreAdded, FunctionsAreAdded, TablesAreAdded, MemoriesAreAdded, TagsAreAdded, ExportsAreAdded, ValidListsAreAdded, StartsAreDecided};
 

@@ -4,18 +4,18 @@ use Rattle.wasm_spec.specs.Syntax.{Sub, Comp}
 use Rattle.wasm_spec.specs.Features.{Features}
 use Rattle.wasm_spec.specs.MatchingTests.{World}
 use Rattle.wasm_spec.specs.Limits.{most_locals}
-use Rattle.wasm_operator_steps.specs.WasmSpecRules.Attempts.{◌>>=◌, passes}
-use Rattle.wasm_operator_steps.specs.WasmSpecRules.Contexts.{Context}
-use Rattle.wasm_operator_steps.specs.WasmSpecRules.Signatures.{Signature, signature_of}
+use Rattle.wasm_spec_steps.specs.WasmSpecRules.Attempts.{◌>>=◌, passes}
+use Rattle.wasm_spec_steps.specs.WasmSpecRules.Contexts.{Context}
+use Rattle.wasm_spec_steps.specs.WasmSpecRules.Signatures.{Signature, signature_of}
 use Rattle.wasm_operators.specs.Control.{func_block}
-use Rattle.wasm_operator_steps.specs.Bodies.{Local}
-use Rattle.wasm_operator_steps.specs.FunctionBodies.{local_taken, declared_at, IsBodyOfFunction}
-use Rattle.wasm_operator_steps.specs.Steps.{is_finished, start, steps_in}
+use Rattle.wasm_spec_steps.specs.Bodies.{Local}
+use Rattle.wasm_spec_steps.specs.FunctionBodies.{local_taken, declared_at, IsBodyOfFunction}
+use Rattle.wasm_spec_steps.specs.Steps.{is_finished, start, steps_in}
 use Rattle.wasm_spec_instructions.specs.ValueTypes.{IsInOrder, AreUnshared}
 use Rattle.wasm_spec_instructions.specs.Laws.{HasNoSharing}
 use Rattle.wasm_spec_instructions.specs.Expressions.{IsTypedExpression}
 use Rattle.wasm_spec_instructions.proofs.Attempts.{the_same, absent, bind-gives, passes-gives}
-use Rattle.wasm_spec_instructions.proofs.Main.{completeness, soundness_without_sharing}
+use Rattle.wasm_spec_instructions.proofs.MainTheorems.{completeness, soundness_without_sharing}
 use Rattle.wasm_laws_instructions.specs.Bodies.{body_in, IsTypedBody}
 use Rattle.wasm_laws_instructions.specs.Laws.{BodiesAreTyped}
 

@@ -21,17 +21,17 @@ use Rattle.wasm_operators.specs.WasmOperatorsPlain.declared.structs.StructOperat
 use Rattle.wasm_operators.specs.WasmOperatorsPlain.declared.structs.StructOperator.TheVariants.{StructNew, StructNewDefault, StructGet, StructGetS, StructGetU, StructSet, StructNewDesc, StructNewDefaultDesc}
 use Rattle.wasm_operators.specs.WasmOperatorsPlain.declared.arrays.ArrayOperator.{ArrayOperator}
 use Rattle.wasm_operators.specs.WasmOperatorsPlain.declared.arrays.ArrayOperator.TheVariants.{ArrayNew, ArrayNewDefault, ArrayNewFixed, ArrayNewData, ArrayNewElem, ArrayGet, ArrayGetS, ArrayGetU, ArraySet, ArrayLen, ArrayFill, ArrayCopy, ArrayInitData, ArrayInitElem}
-use Rattle.wasm_operator_steps.specs.WasmSpecRules.Attempts.{passes}
-use Rattle.wasm_operator_steps.specs.Bodies.{Surroundings}
-use Rattle.wasm_operator_steps.specs.ConstantExpressions.{is_constant}
-use Rattle.wasm_operator_steps.specs.ConstantRules.{is_readable, is_allowed, IsConstantExpression}
-use Rattle.wasm_operator_steps.specs.Machine.{State}
-use Rattle.wasm_operator_steps.specs.Steps.{is_finished, start, steps_in}
-use Rattle.wasm_operator_steps.specs.Shapes.{variable_shape, computing, reference_shape, conversion_shape, struct_shape, array_shape, shape_of}
+use Rattle.wasm_spec_steps.specs.WasmSpecRules.Attempts.{passes}
+use Rattle.wasm_spec_steps.specs.Bodies.{Surroundings}
+use Rattle.wasm_spec_steps.specs.ConstantExpressions.{is_constant}
+use Rattle.wasm_spec_steps.specs.ConstantRules.{is_readable, is_allowed, IsConstantExpression}
+use Rattle.wasm_spec_steps.specs.Machine.{State}
+use Rattle.wasm_spec_steps.specs.Steps.{is_finished, start, steps_in}
+use Rattle.wasm_spec_steps.specs.Shapes.{variable_shape, computing, reference_shape, conversion_shape, struct_shape, array_shape, shape_of}
 use Rattle.wasm_spec_instructions.specs.ValueTypes.{IsInOrder}
 use Rattle.wasm_spec_instructions.specs.Laws.{is_served, AreServedAs}
 use Rattle.wasm_spec_instructions.proofs.Attempts.{no, and-both, passes-gives}
-use Rattle.wasm_spec_instructions.proofs.Main.{completeness, soundness}
+use Rattle.wasm_spec_instructions.proofs.MainTheorems.{completeness, soundness}
 use Rattle.wasm_laws_instructions.specs.Bodies.{IsTypedConstant}
 use Rattle.wasm_laws_instructions.specs.Laws.{ConstantsAreTyped}
 

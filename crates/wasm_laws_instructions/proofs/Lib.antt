@@ -1,5 +1,5 @@
 pub mod Bodies
 pub mod Constants
 pub mod ModuleConstants
-pub mod Numbered
+pub mod NumberedContexts
 pub mod Modules

@@ -4,11 +4,11 @@ use Rattle.std.specs.Prelude.{IfSome}
 use Rattle.wasm_spec.specs.Syntax.{Val, reference, map_ref, map_val}
 use Rattle.wasm_spec.specs.BinarySections.{ElementItems, functions, expressions, SegmentMode, passive, active, declarative}
 use Rattle.wasm_spec.specs.Features.{Features}
-use Rattle.wasm_operator_steps.specs.WasmSpecRules.Contexts.{Context}
-use Rattle.wasm_operator_steps.specs.WasmSpecRules.Parts.{Parts, Expression}
-use Rattle.wasm_operator_steps.specs.WasmSpecRules.SegmentRules.{index_or_first}
-use Rattle.wasm_operator_steps.specs.WasmSpecRules.Worlds.{world_of}
-use Rattle.wasm_operator_steps.specs.Meanings.{address}
+use Rattle.wasm_spec_steps.specs.WasmSpecRules.Contexts.{Context}
+use Rattle.wasm_spec_steps.specs.WasmSpecRules.Parts.{Parts, Expression}
+use Rattle.wasm_spec_steps.specs.WasmSpecRules.SegmentRules.{index_or_first}
+use Rattle.wasm_spec_steps.specs.WasmSpecRules.Worlds.{world_of}
+use Rattle.wasm_spec_steps.specs.Meanings.{address}
 use Rattle.wasm_spec_validity.specs.Typing.{seeing, around, IsConstant, IsTypedElementMode, AreTypedItems, IsTypedDataMode, HasTypedConstants}
 use Rattle.wasm_spec_instructions.specs.ValueTypes.{IsInOrder}
 use Rattle.wasm_laws_instructions.specs.Modules.{IsConstantByRules, IsElementModeByRules, AreItemsByRules, IsDataModeByRules, HasConstantsByRules}

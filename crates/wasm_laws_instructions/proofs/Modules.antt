@@ -1,10 +1,10 @@
 -- A module is valid exactly where it is with constant expressions and bodies that the rules type.
 use Rattle.std.proofs.Common.{◌≡◌, refl, ℕ, nat_eq, false, List}
 use Rattle.wasm_spec.specs.Features.{Features}
-use Rattle.wasm_spec.proofs.Accepted.{valid_type_section_is_accepted}
-use Rattle.wasm_operator_steps.specs.WasmSpecRules.IndexSpaces.{index_spaces}
-use Rattle.wasm_operator_steps.specs.WasmSpecRules.Modules.{IsWellFormed}
-use Rattle.wasm_operator_steps.specs.WasmSpecRules.Worlds.{world_of}
+use Rattle.wasm_spec.proofs.AcceptedSections.{valid_type_section_is_accepted}
+use Rattle.wasm_spec_steps.specs.WasmSpecRules.IndexSpaces.{index_spaces}
+use Rattle.wasm_spec_steps.specs.WasmSpecRules.Modules.{IsWellFormed}
+use Rattle.wasm_spec_steps.specs.WasmSpecRules.Worlds.{world_of}
 use Rattle.wasm_spec_validity.specs.Expressions.{expression_at}
 use Rattle.wasm_spec_validity.specs.Modules.{Numbering, number_at, context_of, imported_globals, IsValidModule}
 use Rattle.wasm_spec_instructions.specs.ValueTypes.{IsInOrder}
@@ -13,7 +13,7 @@ use Rattle.wasm_laws_instructions.specs.Modules.{IsValidByRules}
 use Rattle.wasm_laws_instructions.specs.Laws.{ModulesAreTyped}
 use Rattle.wasm_laws_instructions.proofs.Bodies.{bodies_are_typed}
 use Rattle.wasm_laws_instructions.proofs.ModuleConstants.{constants-sound, constants-complete}
-use Rattle.wasm_laws_instructions.proofs.Numbered.{is_in_order, has_no_sharing}
+use Rattle.wasm_laws_instructions.proofs.NumberedContexts.{is_in_order, has_no_sharing}
 
 module _ (F : Features) (bytes : List ℕ) where
   ordered : (m : IsWellFormed expression_at F bytes) (n : Numbering (index_spaces m.types.types m.parts).types) → IsInOrder (world_of nat_eq (context_of (index_spaces m.types.types m.parts) n m.parts))

@@ -8,14 +8,14 @@ use Rattle.wasm_spec.specs.Features.{Features}
 use Rattle.wasm_spec.specs.Values.{list_at}
 use Rattle.wasm_spec.specs.MatchingTests.{World}
 use Rattle.wasm_spec.specs.Limits.{most_locals}
-use Rattle.wasm_operator_steps.specs.WasmSpecRules.Attempts.{◌>>=◌}
-use Rattle.wasm_operator_steps.specs.WasmSpecRules.Contexts.{Context}
-use Rattle.wasm_operator_steps.specs.WasmSpecRules.Signatures.{Signature, signature_of}
+use Rattle.wasm_spec_steps.specs.WasmSpecRules.Attempts.{◌>>=◌}
+use Rattle.wasm_spec_steps.specs.WasmSpecRules.Contexts.{Context}
+use Rattle.wasm_spec_steps.specs.WasmSpecRules.Signatures.{Signature, signature_of}
 use Rattle.wasm_operators.specs.Instructions.{Instruction}
-use Rattle.wasm_operator_steps.specs.Bodies.{Local, Surroundings}
-use Rattle.wasm_operator_steps.specs.ConstantRules.{is_allowed}
-use Rattle.wasm_operator_steps.specs.FunctionBodies.{Declaration, declaration_at, declared_locals, local_taken, declared_at}
-use Rattle.wasm_operator_steps.specs.Sequences.{Are}
+use Rattle.wasm_spec_steps.specs.Bodies.{Local, Surroundings}
+use Rattle.wasm_spec_steps.specs.ConstantRules.{is_allowed}
+use Rattle.wasm_spec_steps.specs.FunctionBodies.{Declaration, declaration_at, declared_locals, local_taken, declared_at}
+use Rattle.wasm_spec_steps.specs.Sequences.{Are}
 use Rattle.wasm_spec_instructions.specs.Expressions.{IsTypedExpression}
 
 -- what a body with these locals is typed in

@@ -4,13 +4,13 @@ use Rattle.std.specs.List.{All}
 use Rattle.wasm_spec.specs.Syntax.{Val, reference, map_ref, map_val}
 use Rattle.wasm_spec.specs.BinarySections.{TableEntry, GlobalEntry, Element, ElementItems, functions, expressions, Data, SegmentMode, passive, active, declarative}
 use Rattle.wasm_spec.specs.Features.{Features}
-use Rattle.wasm_operator_steps.specs.WasmSpecRules.Contexts.{Context}
-use Rattle.wasm_operator_steps.specs.WasmSpecRules.IndexSpaces.{index_spaces}
-use Rattle.wasm_operator_steps.specs.WasmSpecRules.Modules.{IsWellFormed}
-use Rattle.wasm_operator_steps.specs.WasmSpecRules.Parts.{Parts, Expression}
-use Rattle.wasm_operator_steps.specs.WasmSpecRules.SegmentRules.{index_or_first}
-use Rattle.wasm_operator_steps.specs.WasmSpecRules.Worlds.{world_of}
-use Rattle.wasm_operator_steps.specs.Meanings.{address}
+use Rattle.wasm_spec_steps.specs.WasmSpecRules.Contexts.{Context}
+use Rattle.wasm_spec_steps.specs.WasmSpecRules.IndexSpaces.{index_spaces}
+use Rattle.wasm_spec_steps.specs.WasmSpecRules.Modules.{IsWellFormed}
+use Rattle.wasm_spec_steps.specs.WasmSpecRules.Parts.{Parts, Expression}
+use Rattle.wasm_spec_steps.specs.WasmSpecRules.SegmentRules.{index_or_first}
+use Rattle.wasm_spec_steps.specs.WasmSpecRules.Worlds.{world_of}
+use Rattle.wasm_spec_steps.specs.Meanings.{address}
 use Rattle.wasm_spec_validity.specs.Expressions.{expression_at}
 use Rattle.wasm_spec_validity.specs.Typing.{seeing, around}
 use Rattle.wasm_spec_validity.specs.Modules.{Numbering, number_at, context_of, imported_globals}

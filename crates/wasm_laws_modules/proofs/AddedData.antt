@@ -14,16 +14,16 @@ use Rattle.wasm_spec_rules.specs.Parts.{Parts, Expression}
 use Rattle.wasm_spec_rules.specs.IndexSpaces.{index_spaces}
 use Rattle.wasm_spec_rules.specs.SegmentRules.{index_or_first, IsValidDataMode, IsValidData}
 use Rattle.wasm_spec_rules.proofs.Verdicts.{Verdict, verdict_as}
-use Rattle.wasm_spec_validity.specs.WasmOperatorSteps.Meanings.{address}
+use Rattle.wasm_spec_validity.specs.WasmSpecSteps.Meanings.{address}
 use Rattle.wasm_laws_core.specs.WasmValidatorTypes.Spaces.{Spaces}
-use Rattle.wasm_laws_core.specs.Shown.{spaces_of}
+use Rattle.wasm_laws_core.specs.ModuleParts.{spaces_of}
 use Rattle.wasm_laws_contexts.specs.ListedTypes.{types_declare}
 use Rattle.wasm_spec_validity.specs.Typing.{IsConstant, IsTypedDataMode, IsTypedData}
 use Rattle.wasm_spec_validity.specs.Modules.{Numbering, number_at, context_of, imported_globals}
 use Rattle.wasm_validator_items.specs.Entries.{add_data, may_be_stored, is_offset}
 use Rattle.wasm_laws_modules.specs.Contexts.{ShowsConstants, ConstantsAreOverNumbers}
 use Rattle.wasm_laws_modules.specs.Lists.{add_segments, up_to_elements}
-use Rattle.wasm_laws_modules.proofs.Behind.{IsRight, are_right, right_behind, each_verdict, tested_verdict}
+use Rattle.wasm_laws_modules.proofs.ItemSequences.{IsRight, are_right, right_behind, each_verdict, tested_verdict}
 use Rattle.wasm_laws_modules.proofs.Constants.{Setting, spaces, GlobalsInRange, shows_constants, offset_decided}
 
 -- an item at an index that passes a test

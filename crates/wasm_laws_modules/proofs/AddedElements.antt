@@ -26,16 +26,16 @@ use Rattle.wasm_spec_rules.specs.SegmentRules.{items_type, items_count, AreValid
 use Rattle.wasm_spec_rules.specs.Sections.{each}
 use Rattle.wasm_spec_rules.specs.Limits.{most_items}
 use Rattle.wasm_spec_rules.proofs.Verdicts.{Verdict, verdict_as, verdict_of}
-use Rattle.wasm_spec_validity.specs.WasmOperatorSteps.Meanings.{address}
+use Rattle.wasm_spec_validity.specs.WasmSpecSteps.Meanings.{address}
 use Rattle.wasm_readers_types.specs.WasmReadersValues.declared.indices.UnpackedIndex.{UnpackedIndex}
 use Rattle.wasm_laws_core.specs.WasmValidatorCanonical.Groups.{nowhere}
 use Rattle.wasm_laws_core.specs.WasmValidatorCanonical.Indices.{canonical_index}
 use Rattle.wasm_laws_core.specs.WasmValidatorCanonical.Sections.{written}
 use Rattle.wasm_laws_core.specs.WasmValidatorChecks.Items.{is_ref_in_range}
-use Rattle.wasm_laws_core.proofs.WasmValidatorChecks.Kept.{length_kept}
+use Rattle.wasm_laws_core.proofs.WasmValidatorChecks.ListedArities.{length_kept}
 use Rattle.wasm_validator_resources.specs.Answers.{world}
 use Rattle.wasm_laws_core.specs.WasmValidatorTypes.Spaces.{Spaces}
-use Rattle.wasm_laws_core.specs.Shown.{listed, listed_table, listed_element, spaces_of}
+use Rattle.wasm_laws_core.specs.ModuleParts.{listed, listed_table, listed_element, spaces_of}
 use Rattle.wasm_laws_core.proofs.AddedItems.{for_each, each_changed}
 use Rattle.wasm_laws_contexts.specs.ListedTypes.{types_declare}
 use Rattle.wasm_spec_validity.specs.Typing.{IsConstant, IsTypedElementMode, AreTypedItems, IsTypedElement}
@@ -45,7 +45,7 @@ use Rattle.wasm_validator_items.specs.Machine as machine
 use Rattle.wasm_validator_items.specs.Maps.{map_items, map_element}
 use Rattle.wasm_laws_modules.specs.Contexts.{ShowsConstants, ConstantsAreOverNumbers, ReferencesMatchOverIds}
 use Rattle.wasm_laws_modules.specs.Lists.{add_elements, up_to_exports}
-use Rattle.wasm_laws_modules.proofs.Behind.{decides_then, IsRight, are_right, right_behind, each_verdict, tested_verdict}
+use Rattle.wasm_laws_modules.proofs.ItemSequences.{decides_then, IsRight, are_right, right_behind, each_verdict, tested_verdict}
 use Rattle.wasm_laws_modules.proofs.Constants.{Setting, spaces, GlobalsInRange, constant_decided, offset_decided}
 use Rattle.wasm_laws_modules.proofs.AddedData.{all_visible}
 

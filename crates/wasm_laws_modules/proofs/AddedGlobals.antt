@@ -23,9 +23,9 @@ use Rattle.wasm_laws_core.specs.WasmValidatorCanonical.Groups.{types_at}
 use Rattle.wasm_laws_core.specs.WasmValidatorCanonical.Indices.{canonical_index}
 use Rattle.wasm_laws_core.specs.WasmValidatorCanonical.Sections.{written}
 use Rattle.wasm_laws_core.specs.WasmValidatorChecks.Items.{is_valid_global}
-use Rattle.wasm_laws_core.proofs.WasmValidatorChecks.Decided.{globals_are_decided}
+use Rattle.wasm_laws_core.proofs.WasmValidatorChecks.ItemTests.{globals_are_decided}
 use Rattle.wasm_laws_core.specs.WasmValidatorTypes.Spaces.{Spaces}
-use Rattle.wasm_laws_core.specs.Shown.{listed_global, spaces_of}
+use Rattle.wasm_laws_core.specs.ModuleParts.{listed_global, spaces_of}
 use Rattle.wasm_laws_core.proofs.AddedItems.{for_each, each_changed}
 use Rattle.wasm_laws_contexts.specs.ListedTypes.{types_declare}
 use Rattle.wasm_spec_validity.specs.Typing.{IsTypedGlobal}
@@ -34,7 +34,7 @@ use Rattle.wasm_validator_items.specs.Entries.{add_global_entry, is_constant_of}
 use Rattle.wasm_validator_items.specs.Maps.{map_global_entry}
 use Rattle.wasm_laws_modules.specs.Contexts.{ShowsConstants, ConstantsAreOverNumbers}
 use Rattle.wasm_laws_modules.specs.Lists.{add_global_entries, up_to_tags}
-use Rattle.wasm_laws_modules.proofs.Behind.{decides_then, IsWithin, AllFrom, are_within, all_behind, each_verdict, limited_verdict}
+use Rattle.wasm_laws_modules.proofs.ItemSequences.{decides_then, IsWithin, AllFrom, are_within, all_behind, each_verdict, limited_verdict}
 use Rattle.wasm_laws_modules.proofs.Constants.{Setting, spaces, GlobalsInRange, shows_constants, constant_decided}
 
 -- the types of valid globals are in range

@@ -22,9 +22,9 @@ use Rattle.wasm_laws_core.specs.WasmValidatorCanonical.Groups.{types_at}
 use Rattle.wasm_laws_core.specs.WasmValidatorCanonical.Indices.{canonical_index}
 use Rattle.wasm_laws_core.specs.WasmValidatorCanonical.Sections.{written}
 use Rattle.wasm_laws_core.specs.WasmValidatorChecks.Items.{is_valid_defined_table}
-use Rattle.wasm_laws_core.proofs.WasmValidatorChecks.Decided.{defined_tables_are_decided}
+use Rattle.wasm_laws_core.proofs.WasmValidatorChecks.ItemTests.{defined_tables_are_decided}
 use Rattle.wasm_laws_core.specs.WasmValidatorTypes.Spaces.{Spaces}
-use Rattle.wasm_laws_core.specs.Shown.{listed_table, spaces_of}
+use Rattle.wasm_laws_core.specs.ModuleParts.{listed_table, spaces_of}
 use Rattle.wasm_laws_core.specs.Lists.{up_to_functions}
 use Rattle.wasm_laws_core.proofs.AddedItems.{each_changed}
 use Rattle.wasm_laws_contexts.specs.ListedTypes.{types_declare}
@@ -34,7 +34,7 @@ use Rattle.wasm_validator_items.specs.Entries.{add_table_entry, is_constant_or_n
 use Rattle.wasm_validator_items.specs.Maps.{map_table_entry}
 use Rattle.wasm_laws_modules.specs.Contexts.{ShowsConstants, ConstantsAreOverNumbers}
 use Rattle.wasm_laws_modules.specs.Lists.{add_table_entries}
-use Rattle.wasm_laws_modules.proofs.Behind.{decides_then, IsWithin, AllFrom, all_from, from_all, are_within, all_behind, each_verdict, limited_verdict}
+use Rattle.wasm_laws_modules.proofs.ItemSequences.{decides_then, IsWithin, AllFrom, all_from, from_all, are_within, all_behind, each_verdict, limited_verdict}
 use Rattle.wasm_laws_modules.proofs.Constants.{Setting, spaces, GlobalsInRange, shows_constants, constant_decided}
 use Rattle.wasm_laws_modules.proofs.AddedGlobals.{imported_in_range}
 

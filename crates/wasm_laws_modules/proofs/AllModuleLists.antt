@@ -13,7 +13,7 @@ use Rattle.wasm_spec_rules.specs.LinkRules.{IsValidExport, HasDistinctNames, eff
 use Rattle.wasm_spec_rules.specs.SegmentRules.{IsValidElement, IsValidData}
 use Rattle.wasm_spec_rules.specs.Limits.{most_functions, most_tables, most_memories, most_globals, most_tags, size_limit}
 use Rattle.wasm_laws_core.specs.WasmValidatorTypes.Spaces.{Spaces}
-use Rattle.wasm_laws_core.specs.Shown.{spaces_of}
+use Rattle.wasm_laws_core.specs.ModuleParts.{spaces_of}
 use Rattle.wasm_laws_core.specs.Lists.{only_types, only_imports, up_to_functions, add_imports, add_functions, add_memories, add_tags, add_exports}
 use Rattle.wasm_laws_core.specs.Laws.{AreValidImports}
 use Rattle.wasm_laws_core.proofs.Fronts.{front, alone}
@@ -28,7 +28,7 @@ use Rattle.wasm_spec_validity.specs.Modules.{Numbering, number_at, context_of, i
 use Rattle.wasm_laws_modules.specs.Contexts.{ConstantsAreOverNumbers, ReferencesMatchOverIds}
 use Rattle.wasm_laws_modules.specs.Lists.{up_to_tables, up_to_memories, up_to_tags, up_to_globals, up_to_exports, up_to_elements, add_table_entries, add_global_entries, add_elements, add_segments, add_all_lists, AreValidModuleLists}
 use Rattle.wasm_laws_modules.specs.Laws.{AreTypedConstants, AllListsAreAdded}
-use Rattle.wasm_laws_modules.proofs.Behind.{All-both, AllFrom, at_index, from_index}
+use Rattle.wasm_laws_modules.proofs.ItemSequences.{All-both, AllFrom, at_index, from_index}
 use Rattle.wasm_laws_modules.proofs.Constants.{Setting}
 use Rattle.wasm_laws_modules.proofs.AddedTables.{tables_verdict}
 use Rattle.wasm_laws_modules.proofs.AddedGlobals.{IsValidEntry, all_in_range, globals_verdict}

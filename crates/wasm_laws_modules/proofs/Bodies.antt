@@ -17,21 +17,21 @@ use Rattle.wasm_readers_types.specs.WasmReadersValues.declared.indices.UnpackedI
 use Rattle.wasm_laws_core.specs.WasmValidatorCanonical.Sections.{StandsFor}
 use Rattle.wasm_laws_core.specs.WasmValidatorChecks.Laws.{Stand}
 use Rattle.wasm_laws_core.specs.WasmValidatorTypes.Spaces.{Spaces}
-use Rattle.wasm_laws_core.specs.Shown.{listed, listed_element, spaces_of}
+use Rattle.wasm_laws_core.specs.ModuleParts.{listed, listed_element, spaces_of}
 use Rattle.wasm_laws_contexts.specs.WasmValidatorCoreResources.ModuleContexts.{exact_flags}
 use Rattle.wasm_laws_contexts.specs.WasmValidatorCoreResources.IndexContexts.{id_of}
 use Rattle.wasm_validator_resources.specs.Answers.{same_index}
 use Rattle.wasm_laws_contexts.specs.ListedTypes.{types_declare}
-use Rattle.wasm_laws_contexts.specs.Numbered.{identity_at}
-use Rattle.wasm_laws_contexts.proofs.InRange.{ref-agrees, tables-agree, globals-agree, zip-length}
+use Rattle.wasm_laws_contexts.specs.TypeNumbers.{identity_at}
+use Rattle.wasm_laws_contexts.proofs.IndexRanges.{ref-agrees, tables-agree, globals-agree, zip-length}
 use Rattle.wasm_spec_validity.specs.Modules.{Numbering, number_at, context_of}
 use Rattle.wasm_spec_validity.proofs.RenamedBodies.{typed_bodies_are_renamed}
 use Rattle.wasm_laws_modules.proofs.ConstantsOverNumbers.{renamed_types}
 use Rattle.wasm_laws_modules.proofs.Indices.{index-back}
-use Rattle.wasm_laws_modules.proofs.Standing.{AreRenamed}
+use Rattle.wasm_laws_modules.proofs.DistinctTypeIds.{AreRenamed}
 use Rattle.wasm_laws_modules.specs.BodyContexts.{code_context, BodiesAreOverNumbers}
 use Rattle.wasm_laws_modules.proofs.Exactness.{all-exact}
-use Rattle.wasm_laws_modules.proofs.InRange.{tables_in_range, globals_in_range}
+use Rattle.wasm_laws_modules.proofs.TypeRanges.{tables_in_range, globals_in_range}
 
 -- the id of each type of a module is the identity of its number
 types-back : (f : ℕ → UnpackedIndex) (n : DefType → ℕ) (ids : List ℕ) (types : List DefType) → length ids ≡ length types

@@ -13,14 +13,14 @@ use Rattle.wasm_spec.proofs.SyntaxMaps.{map_val-map}
 use Rattle.wasm_spec_rules.specs.Parts.{Parts, Expression}
 use Rattle.wasm_spec_rules.specs.IndexSpaces.{IndexSpaces, index_spaces, imported, functions_in, globals_in, IsValInRange}
 use Rattle.wasm_spec_rules.specs.Contexts.{exact_in}
-use Rattle.wasm_spec_validity.specs.WasmOperatorSteps.Meanings.{address}
+use Rattle.wasm_spec_validity.specs.WasmSpecSteps.Meanings.{address}
 use Rattle.wasm_readers_types.specs.WasmReadersValues.declared.indices.UnpackedIndex.{UnpackedIndex}
 use Rattle.wasm_laws_core.specs.WasmValidatorCanonical.Groups.{AreValid}
 use Rattle.wasm_laws_core.specs.WasmValidatorCanonical.Indices.{canonical_index}
 use Rattle.wasm_laws_core.specs.WasmValidatorCanonical.Sections.{written}
 use Rattle.wasm_laws_core.specs.WasmValidatorChecks.Laws.{Stand}
 use Rattle.wasm_laws_core.specs.WasmValidatorTypes.Spaces.{Spaces}
-use Rattle.wasm_laws_core.specs.Shown.{listed, listed_global, spaces_of}
+use Rattle.wasm_laws_core.specs.ModuleParts.{listed, listed_global, spaces_of}
 use Rattle.wasm_laws_contexts.specs.ListedTypes.{types_declare}
 use Rattle.wasm_spec_validity.specs.Typing.{IsConstant}
 use Rattle.wasm_spec_validity.specs.Modules.{Numbering, number_at, context_of, imported_globals}

@@ -17,30 +17,30 @@ use Rattle.wasm_readers_types.specs.WasmReadersValues.declared.indices.UnpackedI
 use Rattle.wasm_laws_core.specs.WasmValidatorCanonical.Groups.{AreValid}
 use Rattle.wasm_laws_core.specs.WasmValidatorCanonical.Sections.{StandsFor}
 use Rattle.wasm_spec_validity.specs.WasmOperators.Control.{value_block}
-use Rattle.wasm_spec_validity.specs.WasmOperatorSteps.Bodies.{Surroundings, map_surroundings}
-use Rattle.wasm_spec_validity.specs.WasmOperatorSteps.ConstantRules.{IsConstantExpression}
-use Rattle.wasm_spec_validity.specs.WasmOperatorSteps.Machine.{map_state}
-use Rattle.wasm_spec_validity.specs.WasmOperatorSteps.Renaming.{Renames}
-use Rattle.wasm_spec_validity.specs.WasmOperatorSteps.Steps.{start}
+use Rattle.wasm_spec_validity.specs.WasmSpecSteps.Bodies.{Surroundings, map_surroundings}
+use Rattle.wasm_spec_validity.specs.WasmSpecSteps.ConstantRules.{IsConstantExpression}
+use Rattle.wasm_spec_validity.specs.WasmSpecSteps.Machine.{map_state}
+use Rattle.wasm_spec_validity.specs.WasmSpecSteps.Renaming.{Renames}
+use Rattle.wasm_spec_validity.specs.WasmSpecSteps.Steps.{start}
 use Rattle.wasm_laws_contexts.specs.WasmValidatorCoreResources.IndexContexts.{id_of}
 use Rattle.wasm_validator_resources.specs.Answers.{world}
 use Rattle.wasm_laws_core.specs.WasmValidatorTypes.Spaces.{Spaces}
-use Rattle.wasm_laws_core.specs.Shown.{listed}
+use Rattle.wasm_laws_core.specs.ModuleParts.{listed}
 use Rattle.wasm_laws_contexts.specs.WasmValidatorCoreResources.ModuleContexts.{exact_flags, numbers_from}
 use Rattle.wasm_validator_items.specs.Expressions.{around_constants, behind_expression}
-use Rattle.wasm_validator_items.proofs.Finding.{are_found}
+use Rattle.wasm_validator_items.proofs.ConstantBytes.{are_found}
 use Rattle.wasm_laws_contexts.specs.ListedTypes.{types_declare}
-use Rattle.wasm_laws_contexts.specs.Numbered.{identity_at}
-use Rattle.wasm_laws_contexts.proofs.InRange.{val-agrees, globals-agree, zip-length}
+use Rattle.wasm_laws_contexts.specs.TypeNumbers.{identity_at}
+use Rattle.wasm_laws_contexts.proofs.IndexRanges.{val-agrees, globals-agree, zip-length}
 use Rattle.wasm_spec_validity.specs.Modules.{Numbering, number_at, context_of, imported_globals}
 use Rattle.wasm_spec_validity.specs.OtherContexts.{elsewhere, ConstantsAreRenamed}
 use Rattle.wasm_spec_validity.specs.Typing.{from_on, seeing, around, IsConstant}
-use Rattle.wasm_spec_validity.proofs.Renamed.{constants_rename}
+use Rattle.wasm_spec_validity.proofs.ConstantRenamings.{constants_rename}
 use Rattle.wasm_validator_items.specs.Machine as machine
 use Rattle.wasm_validator_items.specs.Entries.{is_whole, is_constant_of}
 use Rattle.wasm_laws_modules.specs.Contexts.{HasOwnIds, AreModuleTypes, ShowsConstants, ConstantsAreOverNumbers}
 use Rattle.wasm_laws_modules.proofs.Indices.{index-back}
-use Rattle.wasm_laws_modules.proofs.Standing.{AreRenamed, renamed_on, renamed_off}
+use Rattle.wasm_laws_modules.proofs.DistinctTypeIds.{AreRenamed, renamed_on, renamed_off}
 
 -- which functions are exactly of their type: the imported ones as they say, and as many as are left
 exact-left : (xs ys : List ℕ) → length xs ≡ length ys → exact_flags xs [] ≡ map is_exact ys

@@ -2,7 +2,7 @@
 use Rattle.std.proofs.Common.{◌≡◌, refl, sym, ap, ℕ, zero, suc, ◌<◌, Option, Some, None, arith}
 use Rattle.std.specs.Option.{option_and_then}
 use Rattle.std.proofs.lemmas.Option.{none-some}
-use Rattle.wasm_spec.specs.Declared.{supertype_of, ancestor_at}
+use Rattle.wasm_spec.specs.SupertypeOrder.{supertype_of, ancestor_at}
 use Rattle.wasm_spec.specs.Trees.{DefType, declared}
 
 abbrev pub above_it : (DefType → ℕ) → Option DefType → ℕ

@@ -7,10 +7,10 @@ use Rattle.wasm_spec_rules.specs.IndexSpaces.{nowhere, type_at}
 use Rattle.wasm_validator_type_list.proofs.Lookups.{group_found}
 use Rattle.wasm_laws_core.specs.WasmValidatorCanonical.Indices.{use_of_index}
 use Rattle.wasm_laws_core.specs.WasmValidatorCanonical.Sections.{StandsFor}
-use Rattle.wasm_laws_core.specs.Shown.{listed}
-use Rattle.wasm_laws_contexts.specs.Numbered.{identity_at}
-use Rattle.wasm_laws_contexts.proofs.InRange.{zip_at}
-use Rattle.wasm_laws_modules.proofs.Standing.{AreRenamed}
+use Rattle.wasm_laws_core.specs.ModuleParts.{listed}
+use Rattle.wasm_laws_contexts.specs.TypeNumbers.{identity_at}
+use Rattle.wasm_laws_contexts.proofs.IndexRanges.{zip_at}
+use Rattle.wasm_laws_modules.proofs.DistinctTypeIds.{AreRenamed}
 
 pub index-back : (c : Bool) (us : List DefType) (sids : List ℕ) (types distinct : List DefType) (n : DefType → ℕ) → AllZip (StandsFor c us) sids types → (renamed : AreRenamed us sids types distinct n)
     → (x : ℕ) → x < length types → listed sids x ≡ identity_at renamed.ids (n (type_at types x))

@@ -10,15 +10,15 @@ use Rattle.wasm_spec_rules.specs.Contexts.{Context}
 use Rattle.wasm_spec_rules.specs.IndexSpaces.{type_at, IsRefInRange}
 use Rattle.wasm_spec_rules.specs.Worlds.{world_of}
 use Rattle.wasm_readers_types.specs.WasmReadersValues.declared.indices.UnpackedIndex.{UnpackedIndex}
-use Rattle.wasm_spec_validity.proofs.WasmOperatorSteps.MatchingRenamed.{matches_val-map}
+use Rattle.wasm_spec_validity.proofs.WasmSpecSteps.MatchingRenamed.{matches_val-map}
 use Rattle.wasm_validator_resources.specs.Answers.{world}
-use Rattle.wasm_spec_validity.proofs.Numbered.{types_are_numbered}
-use Rattle.wasm_laws_core.specs.Shown.{listed}
+use Rattle.wasm_spec_validity.proofs.FirstAppearances.{types_are_numbered}
+use Rattle.wasm_laws_core.specs.ModuleParts.{listed}
 use Rattle.wasm_validator_items.specs.Machine as machine
 use Rattle.wasm_laws_contexts.specs.ListedTypes.{types_declare}
-use Rattle.wasm_laws_contexts.specs.Numbered.{AreNumbered, same_number, identity_at}
-use Rattle.wasm_laws_contexts.proofs.AcceptedNumbered.{accepted_types_are_numbered}
-use Rattle.wasm_laws_contexts.proofs.InRange.{ref-agrees}
+use Rattle.wasm_laws_contexts.specs.TypeNumbers.{AreNumbered, same_number, identity_at}
+use Rattle.wasm_laws_contexts.proofs.AcceptedTypeNumbers.{accepted_types_are_numbered}
+use Rattle.wasm_laws_contexts.proofs.IndexRanges.{ref-agrees}
 use Rattle.wasm_laws_modules.specs.Contexts.{ReferencesMatchOverIds}
 use Rattle.wasm_laws_modules.proofs.ConstantsOverNumbers.{renamed_types}
 use Rattle.wasm_laws_modules.proofs.Entries.{entries}

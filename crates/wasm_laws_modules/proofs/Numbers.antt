@@ -8,16 +8,16 @@ use Rattle.std.proofs.lemmas.List.Elements.{All-head, All-contains}
 use Rattle.std.proofs.lemmas.Option.{none-some, same_Some, slice_get-map}
 use Rattle.wasm_spec.specs.Syntax.{Sub, map_sub}
 use Rattle.wasm_spec.specs.References.{refs_sub}
-use Rattle.wasm_spec.specs.Declared.{supertype, supertype_of, ancestor_at}
+use Rattle.wasm_spec.specs.SupertypeOrder.{supertype, supertype_of, ancestor_at}
 use Rattle.wasm_spec.specs.MatchingTests.{IsWorld}
 use Rattle.wasm_spec.specs.Trees.{DefType, declared}
 use Rattle.wasm_spec_rules.specs.Attempts.{◌>>=◌}
 use Rattle.wasm_spec_rules.specs.Contexts.{Context}
 use Rattle.wasm_spec_rules.specs.Worlds.{declared_in, world_of}
-use Rattle.wasm_spec_validity.proofs.WasmOperatorSteps.WorldsDecided.{worlds_are_right}
-use Rattle.wasm_laws_contexts.specs.Numbered.{AreNumbered, same_number}
-use Rattle.wasm_laws_contexts.proofs.Counted.{count_below, count-most, count-more}
-use Rattle.wasm_laws_contexts.proofs.Numbered.{other_number, place_of, contains_at, value_of}
+use Rattle.wasm_spec_validity.proofs.WasmSpecSteps.WorldsDecided.{worlds_are_right}
+use Rattle.wasm_laws_contexts.specs.TypeNumbers.{AreNumbered, same_number}
+use Rattle.wasm_laws_contexts.proofs.NumbersBelow.{count_below, count-most, count-more}
+use Rattle.wasm_laws_contexts.proofs.NumbersAndIds.{other_number, place_of, contains_at, value_of}
 use Rattle.wasm_laws_modules.proofs.Entries.{EachDeclares, entries, length-entries, found, none_found}
 
 -- a value behind a map

@@ -7,15 +7,15 @@ use Rattle.std.proofs.lemmas.List.Elements.{All-head, All-contains}
 use Rattle.std.proofs.lemmas.Option.{none-some, same_Some, slice_get-map, get_or_from_slice_get}
 use Rattle.wasm_spec.specs.Syntax.{AbstractHeap, Heap, abstract_heap, concrete, exact, Ref, Comp, func, array, struct, cont, Sub, map_heap, map_ref, map_comp, map_sub}
 use Rattle.wasm_spec.specs.References.{refs_heap, refs_sub}
-use Rattle.wasm_spec.specs.Declared.{supertype, supertype_of, ancestor_at, IsAncestor}
+use Rattle.wasm_spec.specs.SupertypeOrder.{supertype, supertype_of, ancestor_at, IsAncestor}
 use Rattle.wasm_spec.specs.Matching.{MatchesAbstract, kind_of, bottom_of, MatchesKind, IsAboveBottom, MatchesHeap, MatchesRef}
 use Rattle.wasm_spec.specs.Trees.{DefType, declared}
 use Rattle.wasm_spec_rules.specs.Contexts.{AreFirst}
 use Rattle.wasm_spec_rules.specs.IndexSpaces.{nowhere, type_at, ref_over, IsRefInRange}
 use Rattle.wasm_spec_rules.specs.Worlds.{declared_in}
 use Rattle.wasm_validator_type_list.proofs.Lookups.{group_found}
-use Rattle.wasm_laws_contexts.specs.Numbered.{AreNumbered, same_number}
-use Rattle.wasm_laws_contexts.proofs.Numbered.{place_of, contains_at}
+use Rattle.wasm_laws_contexts.specs.TypeNumbers.{AreNumbered, same_number}
+use Rattle.wasm_laws_contexts.proofs.NumbersAndIds.{place_of, contains_at}
 use Rattle.wasm_laws_modules.proofs.Entries.{entries}
 use Rattle.wasm_laws_modules.proofs.Numbers.{from_map, first_of_all, each, numbered}
 

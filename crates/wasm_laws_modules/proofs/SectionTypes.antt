@@ -7,8 +7,8 @@ use Rattle.wasm_spec.specs.Features.{Features, canonical}
 use Rattle.wasm_spec.specs.Trees.{RecTree, TypeUse, DefType, start_of, close}
 use Rattle.wasm_spec.specs.Closing.{is_closable, resolve, start_unless, closed, positions, with_group, with_groups}
 use Rattle.wasm_spec.specs.TypeLaws.{HasNoRepetition}
-use Rattle.wasm_spec.proofs.Accepted.{valid_type_section_is_accepted}
-use Rattle.wasm_spec.proofs.Numbering.{start_of-close}
+use Rattle.wasm_spec.proofs.AcceptedSections.{valid_type_section_is_accepted}
+use Rattle.wasm_spec.proofs.ReferenceNumbers.{start_of-close}
 use Rattle.wasm_validator_type_groups.proofs.Places.{get-append}
 use Rattle.wasm_validator_type_list.proofs.DefTypes.{from-positions}
 use Rattle.wasm_laws_modules.specs.Contexts.{SectionsGiveModuleTypes}

@@ -14,7 +14,7 @@ use Rattle.wasm_readers_types.specs.WasmReadersValues.declared.indices.UnpackedI
 use Rattle.wasm_laws_core.specs.WasmValidatorCanonical.Groups.{AreValid}
 use Rattle.wasm_laws_core.specs.WasmValidatorChecks.Laws.{Stand}
 use Rattle.wasm_laws_core.specs.WasmValidatorTypes.Spaces.{Spaces}
-use Rattle.wasm_laws_core.specs.Shown.{spaces_of}
+use Rattle.wasm_laws_core.specs.ModuleParts.{spaces_of}
 use Rattle.wasm_laws_contexts.specs.WasmValidatorCoreResources.ModuleContexts.{exact_flags}
 use Rattle.wasm_laws_contexts.specs.WasmValidatorCoreResources.IndexContexts.{id_of}
 use Rattle.wasm_validator_resources.specs.Answers.{same_index}

@@ -10,7 +10,7 @@ use Rattle.wasm_spec_rules.specs.IndexSpaces.{index_spaces}
 use Rattle.wasm_laws_core.specs.WasmValidatorCanonical.Groups.{AreValid}
 use Rattle.wasm_laws_core.specs.WasmValidatorChecks.Laws.{Stand}
 use Rattle.wasm_laws_core.specs.WasmValidatorTypes.Spaces.{Spaces}
-use Rattle.wasm_laws_core.specs.Shown.{spaces_of}
+use Rattle.wasm_laws_core.specs.ModuleParts.{spaces_of}
 use Rattle.wasm_laws_core.specs.Lists.{only_types}
 use Rattle.wasm_spec_validity.specs.Typing.{HasTypedConstants}
 use Rattle.wasm_spec_validity.specs.Modules.{Numbering, number_at, context_of, imported_globals}

@@ -1,7 +1,7 @@
 pub use Rattle.wasm_laws_core.specs as WasmLawsCore
 pub use Rattle.wasm_laws_contexts.specs as WasmLawsContexts
 pub use Rattle.wasm_validator_items.specs.Maps
-pub use Rattle.wasm_validator_items.specs.Reading
+pub use Rattle.wasm_validator_items.specs.OnePassSections
 pub mod Contexts
 pub mod BodyContexts
 pub mod Lists

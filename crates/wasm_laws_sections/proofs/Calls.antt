@@ -2,8 +2,8 @@
 use Rattle.std.proofs.Common.{refl, sym, subst, List, [], ◌∷◌, ◌++◌}
 use Rattle.std.specs.declared.result.Result.TheVariants.{Ok, Err}
 use Rattle.wasm_validator_states.specs.WasmValidatorCore.declared.error.Error.TheVariants.{Refused, DuplicateExport, InFunction, OutOfMemory}
-use Rattle.wasm_validator_states.specs.Standing.{Standing, fresh, after_reset}
-use Rattle.wasm_laws_sections.specs.Reached.{Called, accepted, refused, without_memory, reset, Leads, LeadsAll, IsReached, NewStatesAreReached, CallsLeadOn, ResetsLeadOn}
+use Rattle.wasm_validator_states.specs.ValidatorStages.{Standing, fresh, after_reset}
+use Rattle.wasm_laws_sections.specs.CallStates.{Called, accepted, refused, without_memory, reset, Leads, LeadsAll, IsReached, NewStatesAreReached, CallsLeadOn, ResetsLeadOn}
 
 lead_on : (cs : List Called) (c : Called) (s t u : Standing) → LeadsAll cs s t → Leads c t u → LeadsAll (cs ++ c ∷ []) s u
 lead_on [] c s t u a b = (u, subst (λ (x : Standing). Leads c x u) (sym a) b, refl)

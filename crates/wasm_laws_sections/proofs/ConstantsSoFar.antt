@@ -24,7 +24,7 @@ use Rattle.wasm_spec_rules.specs.ItemRules.{IsAllowedRef, IsValidTableEntry, IsV
 use Rattle.wasm_spec_rules.specs.Parts.{Parts, Expression}
 use Rattle.wasm_spec_rules.specs.SegmentRules.{items_type, items_count, AreValidItems, index_or_first, GoesToTable, IsValidElementMode, IsValidDataMode}
 use Rattle.wasm_spec_rules.specs.Limits.{most_items}
-use Rattle.wasm_spec_validity.specs.WasmOperatorSteps.Meanings.{address}
+use Rattle.wasm_spec_validity.specs.WasmSpecSteps.Meanings.{address}
 use Rattle.wasm_spec_validity.specs.Modules.{Numbering, number_at, context_of, imported_globals}
 use Rattle.wasm_spec_validity.specs.Typing.{IsConstant, IsTypedElementMode, AreTypedItems, IsTypedDataMode}
 use Rattle.wasm_readers_types.specs.WasmReadersValues.declared.indices.UnpackedIndex.{UnpackedIndex}
@@ -34,18 +34,18 @@ use Rattle.wasm_validator_states.specs.WasmValidatorCanonical.Sections.{written}
 use Rattle.wasm_validator_types.specs.Spaces.{Spaces}
 use Rattle.wasm_validator_states.specs.WasmValidatorSections.WasmValidatorChecks.Items.{is_ref_in_range}
 use Rattle.wasm_validator_states.specs.WasmValidatorSections.WasmValidatorCore.Answers.{TypesSoFar}
-use Rattle.wasm_validator_states.specs.WasmValidatorSections.WasmLawsCore.Shown.{listed, listed_table, listed_global}
+use Rattle.wasm_validator_states.specs.WasmValidatorSections.WasmLawsCore.ModuleParts.{listed, listed_table, listed_global}
 use Rattle.wasm_validator_states.specs.WasmValidatorSections.WasmLawsContexts.ListedTypes.{types_declare}
 use Rattle.wasm_validator_states.specs.WasmValidatorSections.WasmLawsContexts.WasmValidatorCoreResources.IndexContexts.{id_of}
 use Rattle.wasm_validator_states.specs.WasmValidatorSections.WasmLawsContexts.WasmValidatorCoreResources.ModuleContexts.{exact_flags, numbers_from}
 use Rattle.wasm_validator_states.specs.WasmValidatorSections.WasmLawsModules.Contexts.{ShowsConstants}
 use Rattle.wasm_validator_states.specs.WasmValidatorSections.WasmLawsModules.Maps.{map_items}
 use Rattle.wasm_validator_states.specs.WasmValidatorSections.Entries.{is_constant_of, is_constant_or_none, is_offset, are_items, may_be_placed, may_be_stored}
-use Rattle.wasm_validator_states.proofs.WasmValidatorSections.WasmLawsModules.Behind.{decides_then}
+use Rattle.wasm_validator_states.proofs.WasmValidatorSections.WasmLawsModules.ItemSequences.{decides_then}
 use Rattle.wasm_validator_states.proofs.WasmValidatorSections.WasmLawsModules.ConstantsOverNumbers.{constants_are_over_numbers}
 use Rattle.wasm_validator_states.proofs.WasmValidatorSections.WasmLawsModules.MatchingOverIds.{references_match_over_ids}
 use Rattle.wasm_validator_states.specs.SectionLaws.{FitsTable, FitsGlobal, FitsElement, FitsData}
-use Rattle.wasm_laws_sections.specs.Read.{HasTypes, Shows}
+use Rattle.wasm_laws_sections.specs.StateInvariants.{HasTypes, Shows}
 use Rattle.wasm_laws_sections.specs.AnyOrder.{IsRightTable, IsRightGlobal, IsRightElement, IsRightData}
 use Rattle.wasm_laws_sections.proofs.HeldTypes.{stand, as_many, once, module_types, own_ids}
 

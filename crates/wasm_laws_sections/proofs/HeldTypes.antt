@@ -22,19 +22,19 @@ use Rattle.wasm_validator_type_list.proofs.Lookups.{group_found}
 use Rattle.wasm_validator_states.specs.WasmValidatorCanonical.Groups.{placed, AreValid, with_written}
 use Rattle.wasm_validator_states.specs.WasmValidatorCanonical.Indices.{use_of_index}
 use Rattle.wasm_validator_states.specs.WasmValidatorCanonical.Sections.{written, with_all_written, StandsFor, HoldsSection}
-use Rattle.wasm_validator_states.proofs.WasmValidatorCanonical.Apart.{added_types_stay_apart, apart_types_are_distinct}
-use Rattle.wasm_validator_states.proofs.WasmValidatorCanonical.Kept.{new_ids}
+use Rattle.wasm_validator_states.proofs.WasmValidatorCanonical.DistinctLists.{added_types_stay_apart, apart_types_are_distinct}
+use Rattle.wasm_validator_states.proofs.WasmValidatorCanonical.KeptTypes.{new_ids}
 use Rattle.wasm_validator_states.proofs.WasmValidatorCanonical.Steps.{is_held}
 use Rattle.wasm_validator_states.proofs.WasmValidatorCanonical.Sections.{added_sections_are_valid}
 use Rattle.wasm_validator_types.specs.Spaces.{Spaces}
 use Rattle.wasm_validator_states.specs.WasmValidatorSections.WasmValidatorChecks.Laws.{Stand}
 use Rattle.wasm_validator_states.specs.WasmValidatorSections.WasmValidatorCore.Answers.{TypesSoFar}
-use Rattle.wasm_validator_states.specs.WasmValidatorSections.WasmLawsCore.Shown.{listed}
+use Rattle.wasm_validator_states.specs.WasmValidatorSections.WasmLawsCore.ModuleParts.{listed}
 use Rattle.wasm_validator_states.specs.WasmValidatorSections.WasmLawsModules.Contexts.{HasOwnIds, AreModuleTypes}
 use Rattle.wasm_validator_states.proofs.WasmValidatorSections.WasmLawsCore.AddedItems.{for_each}
-use Rattle.wasm_validator_states.proofs.WasmValidatorSections.WasmLawsContexts.InRange.{tables-agree, globals-agree, zip-length}
+use Rattle.wasm_validator_states.proofs.WasmValidatorSections.WasmLawsContexts.IndexRanges.{tables-agree, globals-agree, zip-length}
 use Rattle.wasm_validator_states.proofs.WasmValidatorSections.WasmLawsModules.SectionTypes.{sections_give_module_types}
-use Rattle.wasm_laws_sections.specs.Read.{AreHeld, HasTypes, ShowsIndices, ShowsTables, ShowsGlobals, Shows}
+use Rattle.wasm_laws_sections.specs.StateInvariants.{AreHeld, HasTypes, ShowsIndices, ShowsTables, ShowsGlobals, Shows}
 
 -- what the types of a module are known to be
 module _ (F : Features) (us : TypesSoFar) (ids : List ℕ) (types : List DefType) (h : HasTypes F us ids types) where

@@ -1,7 +1,7 @@
 pub mod HeldTypes
 pub mod ShownLists
 pub mod ConstantsSoFar
-pub mod Appended
-pub mod Anywhere
+pub mod AppendedItems
+pub mod SectionMethods
 pub mod ReachedStates
 pub mod Calls

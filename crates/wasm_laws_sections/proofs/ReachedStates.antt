@@ -22,9 +22,9 @@ use Rattle.wasm_spec_rules.specs.Sections.{each}
 use Rattle.wasm_spec_rules.specs.Limits.{most_types}
 use Rattle.wasm_spec_rules.proofs.Tests.{then_some, guarded}
 use Rattle.wasm_spec_validity.specs.Modules.{Numbering}
-use Rattle.wasm_spec_validity.proofs.Numbered.{types_are_numbered}
+use Rattle.wasm_spec_validity.proofs.FirstAppearances.{types_are_numbered}
 use Rattle.wasm_validator_states.specs.WasmValidatorCanonical.Sections.{written}
-use Rattle.wasm_validator_states.specs.WasmValidatorCanonical.Apart.{AreApart}
+use Rattle.wasm_validator_states.specs.WasmValidatorCanonical.DistinctTypes.{AreApart}
 use Rattle.wasm_validator_states.specs.WasmValidatorCanonical.Groups.{AreValid}
 use Rattle.wasm_validator_types.specs.Spaces.{Spaces, no_spaces}
 use Rattle.wasm_validator_states.specs.WasmValidatorSections.WasmValidatorCore.Answers.{TypesSoFar}
@@ -32,24 +32,24 @@ use Rattle.wasm_validator_states.specs.WasmValidatorSections.WasmValidatorCore.M
 use Rattle.wasm_validator_states.specs.WasmValidatorSections.WasmValidatorReferences.References.{section_names}
 use Rattle.wasm_validator_states.specs.WasmValidatorSections.WasmLawsCore.Imports.{FitsImport, with_entry}
 use Rattle.wasm_validator_states.specs.WasmValidatorSections.Machine.{type_items, section_items, start_item, data_count_item, beside}
-use Rattle.wasm_validator_states.specs.WasmValidatorSections.Noted.{Noted, nothing_noted, naming, counting, noting_nothing}
-use Rattle.wasm_validator_states.specs.WasmValidatorSections.Started.{Started, starting, taking, bodies_left}
+use Rattle.wasm_validator_states.specs.WasmValidatorSections.ModuleNotes.{Noted, nothing_noted, naming, counting, noting_nothing}
+use Rattle.wasm_validator_states.specs.WasmValidatorSections.CodeProgress.{Started, starting, taking, bodies_left}
 use Rattle.wasm_validator_states.proofs.WasmValidatorSections.WasmLawsCore.AddedItems.{for_each}
 use Rattle.wasm_validator_states.proofs.WasmValidatorSections.SectionEntries.{limited, section_entries}
-use Rattle.wasm_validator_states.specs.Standing.{Stage, unparsed, in_module, in_code, ended, failed, Standing, fresh, refused_at, read_refused_at, body_refused_at, ended_at, reset_at, within, at_stage, HoldsValid}
+use Rattle.wasm_validator_states.specs.ValidatorStages.{Stage, unparsed, in_module, in_code, ended, failed, Standing, fresh, refused_at, read_refused_at, body_refused_at, ended_at, reset_at, within, at_stage, HoldsValid}
 use Rattle.wasm_validator_states.specs.States.{begun, within_by, after_section, after_start, after_data_count, after_code_start, code_started, body_taken, after_body, module_ended, after_piece, is_barred, left_by}
 use Rattle.wasm_validator_states.specs.SectionLaws.{AddsEach}
 use Rattle.wasm_validator_states.proofs.AddedTypes.{ends_at}
-use Rattle.wasm_validator_states.proofs.Growing.{within_some}
+use Rattle.wasm_validator_states.proofs.ListGrowth.{within_some}
 use Rattle.wasm_validator_states.proofs.KnownSections.{section_known}
 use Rattle.wasm_validator_states.proofs.ModuleRun.{section_case}
 use Rattle.wasm_validator_states.proofs.SectionLaws.{at_module}
-use Rattle.wasm_laws_sections.specs.Reached.{Called, accepted, refused, without_memory, reset, Leads, LeadsAll}
-use Rattle.wasm_laws_sections.specs.Read.{Shows, HasRead, IsReadAt, ReachedStatesAreRead}
+use Rattle.wasm_laws_sections.specs.CallStates.{Called, accepted, refused, without_memory, reset, Leads, LeadsAll}
+use Rattle.wasm_laws_sections.specs.StateInvariants.{Shows, HasRead, IsReadAt, ReachedStatesAreRead}
 use Rattle.wasm_laws_sections.specs.AnyOrder.{Reads, ReadsCode, IsRightTable}
 use Rattle.wasm_laws_sections.proofs.HeldTypes.{are_held, grown, types_shown}
 use Rattle.wasm_laws_sections.proofs.ShownLists.{nothing_shown, no_parts, begun_shown, with_extern, import_shown, functions_shown, tables_shown, memories_shown, tags_shown, globals_shown, exports_shown, elements_shown}
-use Rattle.wasm_laws_sections.proofs.Anywhere.{starts_anywhere, data_counts_anywhere, code_starts_anywhere, bodies_anywhere, imports_anywhere, functions_anywhere, memories_anywhere, tags_anywhere, exports_anywhere, tables_anywhere, globals_anywhere, elements_anywhere, segments_anywhere, segments_after_code}
+use Rattle.wasm_laws_sections.proofs.SectionMethods.{starts_anywhere, data_counts_anywhere, code_starts_anywhere, bodies_anywhere, imports_anywhere, functions_anywhere, memories_anywhere, tags_anywhere, exports_anywhere, tables_anywhere, globals_anywhere, elements_anywhere, segments_anywhere, segments_after_code}
 
 abbrev IsRead : Standing → Type 0
 IsRead s = IsReadAt (features_of s.features) s.stage

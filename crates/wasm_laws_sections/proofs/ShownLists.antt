@@ -20,10 +20,10 @@ use Rattle.wasm_validator_types.specs.Spaces.{Spaces, no_spaces}
 use Rattle.wasm_validator_states.specs.WasmValidatorSections.WasmValidatorCore.Answers.{TypesSoFar}
 use Rattle.wasm_validator_states.specs.WasmValidatorSections.WasmLawsCore.Exports.{AreApart, HasSpaces, FitExports, with_exports}
 use Rattle.wasm_validator_states.specs.WasmValidatorSections.WasmLawsCore.Imports.{KeepsLimits, FitsImport, with_entry}
-use Rattle.wasm_validator_states.specs.WasmValidatorSections.WasmLawsCore.Shown.{listed_table, listed_global, entity_in, as_exported, exported_as, export_row, exported_row, export_rows}
+use Rattle.wasm_validator_states.specs.WasmValidatorSections.WasmLawsCore.ModuleParts.{listed_table, listed_global, entity_in, as_exported, exported_as, export_row, exported_row, export_rows}
 use Rattle.wasm_validator_states.proofs.WasmValidatorSections.WasmLawsCore.AddedItems.{for_each}
 use Rattle.wasm_validator_states.proofs.WasmValidatorSections.WasmLawsCore.ExportNames.{row_names, no_names, names_append}
-use Rattle.wasm_laws_sections.specs.Read.{AreHeld, ShowsIndices, ShowsTables, ShowsMemories, ShowsGlobals, Shows}
+use Rattle.wasm_laws_sections.specs.StateInvariants.{AreHeld, ShowsIndices, ShowsTables, ShowsMemories, ShowsGlobals, Shows}
 use Rattle.wasm_laws_sections.proofs.HeldTypes.{no_types}
 
 mapped : {X Y Z : Type 0} (f : Y → Z) (g : X → Y) (xs : List X) → map (λ x. f (g x)) xs ≡ map f (map g xs)

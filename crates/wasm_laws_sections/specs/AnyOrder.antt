@@ -22,14 +22,14 @@ use Rattle.wasm_validator_types.specs.Spaces.{Spaces}
 use Rattle.wasm_validator_states.specs.WasmValidatorSections.WasmValidatorCore.Answers.{TypesSoFar}
 use Rattle.wasm_validator_states.specs.WasmValidatorSections.WasmLawsCore.Exports.{FitExports, with_exports}
 use Rattle.wasm_validator_states.specs.WasmValidatorSections.WasmLawsCore.Imports.{FitsImport, with_entry}
-use Rattle.wasm_validator_states.specs.WasmValidatorSections.WasmLawsCore.Shown.{listed_table, listed_global, listed_element}
+use Rattle.wasm_validator_states.specs.WasmValidatorSections.WasmLawsCore.ModuleParts.{listed_table, listed_global, listed_element}
 use Rattle.wasm_validator_states.specs.WasmValidatorSections.WasmValidatorReferences.References.{names_of_tables, names_of_globals, names_of_exports, names_of_elements}
-use Rattle.wasm_validator_states.specs.WasmValidatorSections.Noted.{Noted, naming, counting}
-use Rattle.wasm_validator_states.specs.WasmValidatorSections.Started.{Started, starting, taking}
-use Rattle.wasm_validator_states.specs.Standing.{Standing, in_module, in_code, HoldsValid}
+use Rattle.wasm_validator_states.specs.WasmValidatorSections.ModuleNotes.{Noted, naming, counting}
+use Rattle.wasm_validator_states.specs.WasmValidatorSections.CodeProgress.{Started, starting, taking}
+use Rattle.wasm_validator_states.specs.ValidatorStages.{Standing, in_module, in_code, HoldsValid}
 use Rattle.wasm_validator_states.specs.States.{after_section, after_start, after_data_count, after_code_start, after_body}
 use Rattle.wasm_validator_states.specs.SectionLaws.{HasAdded, HasAddedEach, HasAddedGroups}
-use Rattle.wasm_laws_sections.specs.Read.{Shows}
+use Rattle.wasm_laws_sections.specs.StateInvariants.{Shows}
 
 -- A module is being read before the start of its code, with these lists.
 pub record Reads (s : Standing) (us : TypesSoFar) (m : Spaces) (n : Noted) (C : IndexSpaces) (parts : Parts) : Type 0 where

@@ -1,3 +1,3 @@
-pub mod Reached
-pub mod Read
+pub mod CallStates
+pub mod StateInvariants
 pub mod AnyOrder

@@ -3,8 +3,8 @@
 #![tactic(auto)]
 
 ghost use Rattle.wasm_laws_sections.specs.AnyOrder.{StartsAnywhere, DataCountsAnywhere, CodeStartsAnywhere, BodiesAnywhere, TypesAnywhere, ImportsAnywhere, FunctionsAnywhere, MemoriesAnywhere, TagsAnywhere, ExportsAnywhere, TablesAnywhere, GlobalsAnywhere, ElementsAnywhere, SegmentsAnywhere, SegmentsAfterCode};
-ghost use Rattle.wasm_laws_sections.specs.Reached.{NewStatesAreReached, CallsLeadOn, ResetsLeadOn};
-ghost use Rattle.wasm_laws_sections.specs.Read.{ReachedStatesAreRead};
+ghost use Rattle.wasm_laws_sections.specs.CallStates.{NewStatesAreReached, CallsLeadOn, ResetsLeadOn};
+ghost use Rattle.wasm_laws_sections.specs.StateInvariants.{ReachedStatesAreRead};
 
 /// The states that calls lead to from a new validator, in whatever order they come: that of a new
 /// one, and each that a call leaves in the words of its contract, or a reset.

@@ -1,13 +1,13 @@
 -- The small engine keeps its promises, and the example in it fits and computes.
 use Rattle.std.proofs.Common.{◌≡◌, refl, sym, ap, subst, ◌∙◌, ℕ, zero, suc, Bool, true, false, not, ◌+◌, ◌&&◌, if◌then◌else◌, List, [], ◌∷◌, ◌++◌, Option, Some, None, is_some, option_map, slice_get}
 use Rattle.std.proofs.lemmas.Bool.Decides.{Decides-eqb}
-use Rattle.wasm_operator_steps.specs.WasmSpecRules.WasmSpec.Syntax.{Heap, concrete, exact, Val, i32, Comp, func, array, struct, cont, Sub, Field}
-use Rattle.wasm_operator_steps.specs.WasmSpecRules.WasmSpec.Features.{Features}
-use Rattle.wasm_operator_steps.specs.WasmSpecRules.WasmSpec.Declared.{IsAncestor, ancestor_at}
-use Rattle.wasm_operator_steps.specs.WasmSpecRules.WasmSpec.MatchingTests.{World, IsWorld, matches_heap}
-use Rattle.wasm_operator_steps.specs.WasmSpecRules.WasmSpec.TypeLaws.{KeepsKind}
-use Rattle.wasm_operator_steps.specs.WasmSpecRules.Attempts.{◌>>=◌}
-use Rattle.wasm_operator_steps.specs.WasmSpecRules.Signatures.{Signature, signature_of}
+use Rattle.wasm_spec_steps.specs.WasmSpecRules.WasmSpec.Syntax.{Heap, concrete, exact, Val, i32, Comp, func, array, struct, cont, Sub, Field}
+use Rattle.wasm_spec_steps.specs.WasmSpecRules.WasmSpec.Features.{Features}
+use Rattle.wasm_spec_steps.specs.WasmSpecRules.WasmSpec.SupertypeOrder.{IsAncestor, ancestor_at}
+use Rattle.wasm_spec_steps.specs.WasmSpecRules.WasmSpec.MatchingTests.{World, IsWorld, matches_heap}
+use Rattle.wasm_spec_steps.specs.WasmSpecRules.WasmSpec.TypeLaws.{KeepsKind}
+use Rattle.wasm_spec_steps.specs.WasmSpecRules.Attempts.{◌>>=◌}
+use Rattle.wasm_spec_steps.specs.WasmSpecRules.Signatures.{Signature, signature_of}
 use Rattle.wasm_operators.specs.Control.{value_block}
 use Rattle.wasm_operators.specs.Instructions as instruction
 use Rattle.wasm_operators.specs.Instructions.{Instruction}
@@ -21,9 +21,9 @@ use Rattle.wasm_operators.specs.WasmOperatorsPlain.declared.numeric.NumericOpera
 use Rattle.wasm_operators.specs.WasmOperatorsPlain.declared.structs.StructOperator.{StructOperator}
 use Rattle.wasm_operators.specs.WasmOperatorsPlain.declared.structs.StructOperator.TheVariants.{StructNew, StructGet}
 use Rattle.wasm_operators.specs.WasmOperatorsPlain.declared.variables.VariableOperator.TheVariants.{LocalGet}
-use Rattle.wasm_operator_steps.specs.Bodies.{Surroundings}
-use Rattle.wasm_operator_steps.specs.Shapes.{shape_of}
-use Rattle.wasm_operator_steps.specs.Meanings.{function_heap, fields_of, fields_at, exact_if, unpack_field}
+use Rattle.wasm_spec_steps.specs.Bodies.{Surroundings}
+use Rattle.wasm_spec_steps.specs.Shapes.{shape_of}
+use Rattle.wasm_spec_steps.specs.Meanings.{function_heap, fields_of, fields_at, exact_if, unpack_field}
 use Rattle.wasm_spec_instructions.specs.Code.{Code, done, simply}
 use Rattle.wasm_spec_instructions.specs.ValueTypes.{ValueType, val, vals, reference_at, IsInOrder}
 use Rattle.wasm_spec_instructions.specs.Scopes.{Scope, behind}
@@ -31,12 +31,12 @@ use Rattle.wasm_spec_instructions.specs.Rules.{sets_of, Rule, plain_rule}
 use Rattle.wasm_spec_instructions.specs.Sequences.{Typed, instruction_rule, if_else_rule, sequence_rule, frame_rule}
 use Rattle.wasm_spec_instructions.specs.Expressions.{body_scope}
 use Rattle.wasm_spec_instructions.proofs.Attempts.{no, the_same, absent}
-use Rattle.wasm_spec_instructions.proofs.Fits.{match-itself}
-use Rattle.wasm_spec_instructions.proofs.Fixed.{fixed_types_have_their_rules}
+use Rattle.wasm_spec_instructions.proofs.OperandFits.{match-itself}
+use Rattle.wasm_spec_instructions.proofs.FixedTypeRules.{fixed_types_have_their_rules}
 use Rattle.wasm_spec_instructions.proofs.Orders.{worlds_are_in_order}
 use Rattle.wasm_laws_values.specs.Values.{Value, i32_value, other, Instance, Definition, defined, hosted, Function, Store, signature_in, is_apart, is_i32, is_other, no_values, and_value}
 use Rattle.wasm_laws_values.specs.Outcomes.{Answer, gives, Primitives}
-use Rattle.wasm_laws_values.specs.Fits.{Grows, Reaches, InstanceFits, IsTypedCode, IsTypedFunction, StoreFits, IsKept, gives_them, may_fail, FunctionsMatch}
+use Rattle.wasm_laws_values.specs.StoreValidity.{Grows, Reaches, InstanceFits, IsTypedCode, IsTypedFunction, StoreFits, IsKept, gives_them, may_fail, FunctionsMatch}
 use Rattle.wasm_laws_values.proofs.Values.{grows-refl}
 use Rattle.wasm_laws_values.proofs.Outcomes.{function-grows, exception-grows}
 use Rattle.wasm_laws_soundness.specs.Promises.{it_ends, KeepsPromises}

@@ -1,43 +1,43 @@
 -- Wherever a run of typed code comes, it has as many operands as the validator saw there: by induction on the number of steps, and within it
 -- on the typing.
 use Rattle.std.proofs.Common.{◌≡◌, refl, sym, ap, subst, ◌∙◌, ◌⊎◌, inl, inr, ℕ, zero, suc, ◌+◌, Bool, true, false, ◌==◌, List, [], ◌∷◌, ◌++◌, append_assoc, append-nil, Option, Some, option_map, length, slice_get, arith, length-append}
-use Rattle.wasm_operator_steps.specs.WasmSpecRules.WasmSpec.Syntax.{Val, i32}
-use Rattle.wasm_operator_steps.specs.WasmSpecRules.WasmSpec.MatchingTests.{World}
-use Rattle.wasm_operator_steps.specs.WasmSpecRules.Attempts.{◌>>=◌, guard}
-use Rattle.wasm_operator_steps.specs.WasmSpecRules.Signatures.{Signature}
+use Rattle.wasm_spec_steps.specs.WasmSpecRules.WasmSpec.Syntax.{Val, i32}
+use Rattle.wasm_spec_steps.specs.WasmSpecRules.WasmSpec.MatchingTests.{World}
+use Rattle.wasm_spec_steps.specs.WasmSpecRules.Attempts.{◌>>=◌, guard}
+use Rattle.wasm_spec_steps.specs.WasmSpecRules.Signatures.{Signature}
 use Rattle.wasm_operators.specs.Control.{Block}
 use Rattle.wasm_operators.specs.Instructions.{Instruction}
-use Rattle.wasm_operator_steps.specs.Bodies.{Surroundings}
-use Rattle.wasm_operator_steps.specs.Machine.{Operand, Kind, if_kind, else_kind, legacy_try_kind, legacy_catch_kind, may_catch, has_caught, is_if, Frame}
-use Rattle.wasm_operator_steps.specs.Machine as machine
-use Rattle.wasm_operator_steps.specs.Actions.{of_tag, take}
-use Rattle.wasm_operator_steps.specs.Shapes.{shape_of}
-use Rattle.wasm_operator_steps.specs.Meanings.{label_by, block_signature, signature_at}
-use Rattle.wasm_operator_steps.specs.Steps.{actions_of, checked, steps_in}
+use Rattle.wasm_spec_steps.specs.Bodies.{Surroundings}
+use Rattle.wasm_spec_steps.specs.Machine.{Operand, Kind, if_kind, else_kind, legacy_try_kind, legacy_catch_kind, may_catch, has_caught, is_if, Frame}
+use Rattle.wasm_spec_steps.specs.Machine as machine
+use Rattle.wasm_spec_steps.specs.Actions.{of_tag, take}
+use Rattle.wasm_spec_steps.specs.Shapes.{shape_of}
+use Rattle.wasm_spec_steps.specs.Meanings.{label_by, block_signature, signature_at}
+use Rattle.wasm_spec_steps.specs.Steps.{actions_of, checked, steps_in}
 use Rattle.wasm_spec_instructions.specs.Code.{Opening, a_block, a_loop, an_if, a_try, a_try_table, Handler, a_catch, a_catch_all, Code, done, simply, enclosing, choosing_between, handling, delegating_to, Handlers, last_handler, catch_before, and_then, is_done, is_one, written, handler_written, else_, end_, delegate_, flatten, flatten_handlers, kind_of, block_of, checks_of, condition_of, handler_kind, handler_checks, handler_operands}
 use Rattle.wasm_spec_instructions.specs.ValueTypes.{ValueType, bot, val, vals, Match}
 use Rattle.wasm_spec_instructions.specs.Scopes.{Scope, labelled, inside, in_handler, behind as behind_setting, is_set, types_in}
 use Rattle.wasm_spec_instructions.specs.Rules.{sets_of, Rule}
 use Rattle.wasm_spec_instructions.specs.Sequences.{Opens, Catches, Typed, empty_rule, instruction_rule, block_rule, loop_rule, if_rule, if_else_rule, try_table_rule, try_rule, handling_rule, delegating_rule, sequence_rule, frame_rule, subsumption_rule, Handle, last_rule, before_rule}
 use Rattle.wasm_spec_instructions.proofs.Attempts.{no, the_same, bind-gives, bind-at, passes-gives}
-use Rattle.wasm_spec_instructions.proofs.Within.{Stack, stack, Entered, starting, fresh, deeper, entered, taking, signed as signed_at, lenter_block, lenter, lend, lpops, lcatch, lrun, check}
-use Rattle.wasm_spec_instructions.proofs.Bridge.{Place, at, frame, scope, IsSigned, inside as inside_of, opened, opened_over, turn-at}
+use Rattle.wasm_spec_instructions.proofs.FrameMachine.{Stack, stack, Entered, starting, fresh, deeper, entered, taking, signed as signed_at, lenter_block, lenter, lend, lpops, lcatch, lrun, check}
+use Rattle.wasm_spec_instructions.proofs.InnermostFrames.{Place, at, frame, scope, IsSigned, inside as inside_of, opened, opened_over, turn-at}
 use Rattle.wasm_spec_instructions.proofs.Structure.{opening-at, handler-at, steps-at}
-use Rattle.wasm_spec_instructions.proofs.Fits.{onto, onto-append, FitsStack, Fits as StackFits, pops-complete, push-complete, end-complete, fits-sub, match-onto, match-itself}
-use Rattle.wasm_spec_instructions.proofs.Sets.{Covers, covers-more, pops-sets, taken-same}
-use Rattle.wasm_spec_instructions.proofs.Complete.{over, condition, condition_types, checks-run, handler-holds, handler-finds, Led, check-complete}
-use Rattle.wasm_spec_instructions.proofs.Growing.{proper}
-use Rattle.wasm_spec_instructions.proofs.Outer.{outer}
+use Rattle.wasm_spec_instructions.proofs.OperandFits.{onto, onto-append, FitsStack, Fits as StackFits, pops-complete, push-complete, end-complete, fits-sub, match-onto, match-itself}
+use Rattle.wasm_spec_instructions.proofs.LocalSets.{Covers, covers-more, pops-sets, taken-same}
+use Rattle.wasm_spec_instructions.proofs.RuleCompleteness.{over, condition, condition_types, checks-run, handler-holds, handler-finds, Led, check-complete}
+use Rattle.wasm_spec_instructions.proofs.ScopeGrowth.{proper}
+use Rattle.wasm_spec_instructions.proofs.OutermostFrame.{outer}
 use Rattle.wasm_laws_values.specs.Values.{Value, i32_value, Instance, Exception, Store, HaveTypes, no_values}
 use Rattle.wasm_laws_values.specs.Outcomes.{State, Exit, branches, throws, out_of_steps, Outcome, falls_through, leaves, Primitives, cut, with_top, holding, label as labelled_by, next, handed, in_block, in_either, catching}
-use Rattle.wasm_laws_values.specs.Fits.{Carries, IsTypedException, Fits, branching, returning, throwing, calling, rethrowing, delegating, trapping, waiting, IsPromised, falling, leaving}
+use Rattle.wasm_laws_values.specs.StoreValidity.{Carries, IsTypedException, Fits, branching, returning, throwing, calling, rethrowing, delegating, trapping, waiting, IsPromised, falling, leaving}
 use Rattle.wasm_laws_values.proofs.Values.{long, above-match, types-append, types-length, types-grow, cut-fits}
 use Rattle.wasm_laws_values.proofs.Outcomes.{fits-with, fits-now, label-promised}
 use Rattle.wasm_laws_soundness.specs.Interpreter.{does, step, with_signature, enter, exec, handle, run}
 use Rattle.wasm_laws_soundness.specs.Laws.{AreSound}
 use Rattle.wasm_laws_soundness.specs.Heights.{first_of, rest_of, Begins, Takes, by_tag, of_any_tag, Comes, starts, behind, within, turns, within_if, within_then, within_else, within_try, within_delegating, catches, Handles, in_last, in_first, in_later, HeightsAreAsSeen, RunsComeToTheEnd}
-use Rattle.wasm_laws_soundness.proofs.Main.{soundness, heights_are_as_typed}
-use Rattle.wasm_laws_soundness.proofs.Reached.{all_go_on, goes_on_or_gives_any, pops-reach, run-reach, enclosing-reach, choosing-reach, handling-reach, delegating-reach}
+use Rattle.wasm_laws_soundness.proofs.SoundnessTheorem.{soundness, heights_are_as_typed}
+use Rattle.wasm_laws_soundness.proofs.ReachableCode.{all_go_on, goes_on_or_gives_any, pops-reach, run-reach, enclosing-reach, choosing-reach, handling-reach, delegating-reach}
 
 -- lengths
 module _ {R : Type 0} where

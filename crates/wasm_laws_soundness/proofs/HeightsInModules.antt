@@ -2,24 +2,24 @@
 use Rattle.std.proofs.Common.{◌≡◌, refl, sym, subst, ◌∙◌, ℕ, nat_eq, List, slice_get, Some, length}
 use Rattle.wasm_spec.specs.Features.{Features}
 use Rattle.wasm_spec.specs.MatchingTests.{World}
-use Rattle.wasm_spec.proofs.Accepted.{valid_type_section_is_accepted}
-use Rattle.wasm_operator_steps.specs.WasmSpecRules.Contexts.{Context}
-use Rattle.wasm_operator_steps.specs.WasmSpecRules.Parts.{Parts}
-use Rattle.wasm_operator_steps.specs.WasmSpecRules.Signatures.{Signature}
-use Rattle.wasm_operator_steps.specs.WasmSpecRules.Worlds.{world_of}
+use Rattle.wasm_spec.proofs.AcceptedSections.{valid_type_section_is_accepted}
+use Rattle.wasm_spec_steps.specs.WasmSpecRules.Contexts.{Context}
+use Rattle.wasm_spec_steps.specs.WasmSpecRules.Parts.{Parts}
+use Rattle.wasm_spec_steps.specs.WasmSpecRules.Signatures.{Signature}
+use Rattle.wasm_spec_steps.specs.WasmSpecRules.Worlds.{world_of}
 use Rattle.wasm_operators.specs.Control.{func_block}
 use Rattle.wasm_operators.specs.Instructions.{Instruction}
-use Rattle.wasm_operator_steps.specs.Bodies.{Surroundings}
-use Rattle.wasm_operator_steps.specs.Meanings.{block_signature}
+use Rattle.wasm_spec_steps.specs.Bodies.{Surroundings}
+use Rattle.wasm_spec_steps.specs.Meanings.{block_signature}
 use Rattle.wasm_spec_instructions.specs.Code.{Code}
 use Rattle.wasm_spec_instructions.specs.ValueTypes.{vals}
 use Rattle.wasm_spec_instructions.proofs.Attempts.{the_same}
 use Rattle.wasm_laws_instructions.specs.Bodies.{IsTypedBody}
 use Rattle.wasm_laws_instructions.proofs.Bodies.{bodies_are_typed}
-use Rattle.wasm_laws_instructions.proofs.Numbered.{is_in_order, has_no_sharing}
+use Rattle.wasm_laws_instructions.proofs.NumberedContexts.{is_in_order, has_no_sharing}
 use Rattle.wasm_laws_values.specs.Values.{Value, Instance, Store, HaveTypes, no_values}
 use Rattle.wasm_laws_values.specs.Outcomes.{State, Primitives, entered}
-use Rattle.wasm_laws_values.specs.Fits.{IsTypedCode, IsTypedFunction}
+use Rattle.wasm_laws_values.specs.StoreValidity.{IsTypedCode, IsTypedFunction}
 use Rattle.wasm_laws_values.proofs.Values.{grows-refl, start-fits}
 use Rattle.wasm_laws_soundness.specs.Laws.{AreSound}
 use Rattle.wasm_laws_soundness.specs.Modules.{IsCodeOf, IsInstance, called_with, context_in}

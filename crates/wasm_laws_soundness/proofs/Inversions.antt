@@ -1,10 +1,10 @@
 -- What the rules say of instructions whose types need more than one look: calls by reference and by a table, branches on casts, `select` of
 -- a type, and null; and how many operands plain instructions take.
 use Rattle.std.proofs.Common.{◌≡◌, refl, sym, ap, ◌∙◌, ℕ, Bool, true, false, ◌&&◌, if◌then◌else◌, List, [], ◌∷◌, ◌++◌, length, Option, Some, None, option_map, slice_get}
-use Rattle.wasm_operator_steps.specs.WasmSpecRules.WasmSpec.Syntax.{func_heap, Heap, abstract_heap, concrete, Ref, Val, i32, reference, Sub, Table}
-use Rattle.wasm_operator_steps.specs.WasmSpecRules.WasmSpec.MatchingTests.{World, matches_val}
-use Rattle.wasm_operator_steps.specs.WasmSpecRules.Attempts.{◌>>=◌, passes, last_of, front_of}
-use Rattle.wasm_operator_steps.specs.WasmSpecRules.Signatures.{Signature, signature_of, resolve_heap, resolve_ref, resolve_val, resolve_vals}
+use Rattle.wasm_spec_steps.specs.WasmSpecRules.WasmSpec.Syntax.{func_heap, Heap, abstract_heap, concrete, Ref, Val, i32, reference, Sub, Table}
+use Rattle.wasm_spec_steps.specs.WasmSpecRules.WasmSpec.MatchingTests.{World, matches_val}
+use Rattle.wasm_spec_steps.specs.WasmSpecRules.Attempts.{◌>>=◌, passes, last_of, front_of}
+use Rattle.wasm_spec_steps.specs.WasmSpecRules.Signatures.{Signature, signature_of, resolve_heap, resolve_ref, resolve_val, resolve_vals}
 use Rattle.wasm_operators.specs.WasmOperatorsPlain.declared.memories.MemArg.{MemArg}
 use Rattle.wasm_operators.specs.WasmOperatorsPlain.declared.memories.MemoryOperator.{MemoryOperator}
 use Rattle.wasm_operators.specs.WasmOperatorsPlain.declared.memories.MemoryOperator.TheVariants.{I32Load}
@@ -22,23 +22,23 @@ use Rattle.wasm_operators.specs.WasmOperatorsPlain.declared.arrays.ArrayOperator
 use Rattle.wasm_operators.specs.WasmOperatorsPlain.declared.signatures.Signature.{Signature as OperatorSignature}
 use Rattle.wasm_operators.specs.WasmOperatorsPlain.declared.signatures.Signature.TheVariants.{Unary, Binary}
 use Rattle.wasm_operators.specs.declared.immediates.ImmediateValues.{ImmediateValues}
-use Rattle.wasm_operator_steps.specs.Forms.{memarg_of}
-use Rattle.wasm_operator_steps.specs.Bodies.{Surroundings}
-use Rattle.wasm_operator_steps.specs.Matching.{matches_vals}
+use Rattle.wasm_spec_steps.specs.Forms.{memarg_of}
+use Rattle.wasm_spec_steps.specs.Bodies.{Surroundings}
+use Rattle.wasm_spec_steps.specs.Matching.{matches_vals}
 use Rattle.wasm_operators.specs.WasmOperatorsAtomic.declared.shared_forms.SharedForm.{SharedForm}
 use Rattle.wasm_operators.specs.WasmOperatorsAtomic.declared.shared_forms.SharedForm.TheVariants as form
 use Rattle.wasm_operators.specs.WasmOperatorsAtomic.declared.shared_forms.Access.{Access}
 use Rattle.wasm_operators.specs.WasmOperatorsAtomic.declared.shared_forms.Access.TheVariants as access
 use Rattle.wasm_operators.specs.WasmOperatorsProposals.declared.accesses.AccessValues.{AccessValues}
-use Rattle.wasm_operator_steps.specs.Actions.{OperandTypes, these, label, returned, repeated, front, last, taken_by, given_by, joined, before, behind, params, results, of_type, of_function, table_address, table_element, global, field, element, Check, each_matches}
-use Rattle.wasm_operator_steps.specs.Shapes.{Shape, plain, ending, measuring, comparing, converting, describing, computing, table_shape, access_shape, memory_shape, conversion_shape, struct_shape, array_shape, wide_shape, address_of, access_taken, access_of, shared_place, shared_value, nothing, one, nullable_to, difference, returns, holds_functions, indirect_checks, reference_to, branch_checks, kept}
-use Rattle.wasm_operator_steps.specs.Meanings.{signature_at, address, continued_signature}
-use Rattle.wasm_operator_steps.specs.Meanings as meaning
+use Rattle.wasm_spec_steps.specs.Actions.{OperandTypes, these, label, returned, repeated, front, last, taken_by, given_by, joined, before, behind, params, results, of_type, of_function, table_address, table_element, global, field, element, Check, each_matches}
+use Rattle.wasm_spec_steps.specs.Shapes.{Shape, plain, ending, measuring, comparing, converting, describing, computing, table_shape, access_shape, memory_shape, conversion_shape, struct_shape, array_shape, wide_shape, address_of, access_taken, access_of, shared_place, shared_value, nothing, one, nullable_to, difference, returns, holds_functions, indirect_checks, reference_to, branch_checks, kept}
+use Rattle.wasm_spec_steps.specs.Meanings.{signature_at, address, continued_signature}
+use Rattle.wasm_spec_steps.specs.Meanings as meaning
 use Rattle.wasm_spec_instructions.specs.ValueTypes.{ValueType, val, vals, reference_at, Match}
 use Rattle.wasm_spec_instructions.specs.Scopes.{Scope, types_in, AllHold}
 use Rattle.wasm_spec_instructions.specs.Rules.{sets_of, Rule, plain_rule, ending_rule, measuring_rule, comparing_rule, converting_rule, describing_exactly_rule, describing_rule}
 use Rattle.wasm_spec_instructions.proofs.Attempts.{no, the_same, absent, bind-gives, passes-gives, and-both, with_last}
-use Rattle.wasm_spec_instructions.proofs.Fits.{vals-append, true-match}
+use Rattle.wasm_spec_instructions.proofs.OperandFits.{vals-append, true-match}
 use Rattle.wasm_laws_values.specs.Values.{signature_in}
 use Rattle.wasm_laws_values.proofs.Values.{length-vals}
 use Rattle.wasm_laws_soundness.specs.Roles.{operand_count}

@@ -1,11 +1,11 @@
 pub mod Inversions
-pub mod Resuming
+pub mod DescriptorsAndHandlers
 pub mod Steps
-pub mod Main
+pub mod SoundnessTheorem
 pub mod Worlds
 pub mod Modules
 pub mod ValidModules
-pub mod Reached
+pub mod ReachableCode
 pub mod Heights
 pub mod HeightsInModules
 pub mod Frames

@@ -4,28 +4,28 @@ use Rattle.std.specs.Option.{option_and_then}
 use Rattle.wasm_spec.specs.Syntax.{Val}
 use Rattle.wasm_spec.specs.Features.{Features}
 use Rattle.wasm_spec.specs.MatchingTests.{World}
-use Rattle.wasm_operator_steps.specs.WasmSpecRules.Contexts.{Context}
-use Rattle.wasm_operator_steps.specs.WasmSpecRules.Parts.{Parts}
-use Rattle.wasm_operator_steps.specs.WasmSpecRules.Signatures.{Signature}
+use Rattle.wasm_spec_steps.specs.WasmSpecRules.Contexts.{Context}
+use Rattle.wasm_spec_steps.specs.WasmSpecRules.Parts.{Parts}
+use Rattle.wasm_spec_steps.specs.WasmSpecRules.Signatures.{Signature}
 use Rattle.wasm_operators.specs.Instructions.{Instruction, instruction_at}
-use Rattle.wasm_operator_steps.specs.Bodies.{Local, Surroundings}
-use Rattle.wasm_operator_steps.specs.FunctionBodies.{Declaration, type_of, declared_locals, local_taken, local_declared}
-use Rattle.wasm_operator_steps.specs.Sequences.{Are}
+use Rattle.wasm_spec_steps.specs.Bodies.{Local, Surroundings}
+use Rattle.wasm_spec_steps.specs.FunctionBodies.{Declaration, type_of, declared_locals, local_taken, local_declared}
+use Rattle.wasm_spec_steps.specs.Sequences.{Are}
 use Rattle.wasm_spec_instructions.specs.Code.{Code, Is}
 use Rattle.wasm_spec_instructions.specs.ValueTypes.{vals}
 use Rattle.wasm_spec_instructions.specs.Expressions.{body_scope}
 use Rattle.wasm_spec_instructions.proofs.Attempts.{the_same, absent}
-use Rattle.wasm_spec_instructions.proofs.Unique.{code_is_unique}
+use Rattle.wasm_spec_instructions.proofs.CodeUniqueness.{code_is_unique}
 use Rattle.wasm_laws_instructions.specs.Bodies.{body_in, IsTypedBody}
 use Rattle.wasm_laws_values.specs.Values.{Value, Instance, Definition, defined, hosted, Function, Store, signature_in, HaveTypes}
 use Rattle.wasm_laws_values.specs.Outcomes.{State, falls_through, Outcome, Primitives}
-use Rattle.wasm_laws_values.specs.Fits.{InstanceFits, IsTypedCode, IsTypedFunction, Fits, IsPromised, falling, leaving}
+use Rattle.wasm_laws_values.specs.StoreValidity.{InstanceFits, IsTypedCode, IsTypedFunction, Fits, IsPromised, falling, leaving}
 use Rattle.wasm_laws_values.proofs.Values.{grows-refl}
 use Rattle.wasm_laws_soundness.specs.Interpreter.{invokes, run}
 use Rattle.wasm_laws_soundness.specs.Laws.{AreSound}
 use Rattle.wasm_laws_soundness.specs.Modules.{IsCodeOf, IsFunctionOf, of_host, of_module, IsInstance, called_with, RunsWell}
 use Rattle.wasm_laws_soundness.proofs.Inversions.{signed}
-use Rattle.wasm_laws_soundness.proofs.Main.{functions_are_sound, not_stuck}
+use Rattle.wasm_laws_soundness.proofs.SoundnessTheorem.{functions_are_sound, not_stuck}
 
 -- bytes are those of one list of instructions at most
 nothing-there : instruction_at (λ n. n) [] ≡ None

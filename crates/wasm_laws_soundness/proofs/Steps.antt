@@ -1,8 +1,8 @@
 -- One instruction does what its rule promises.
 use Rattle.std.proofs.Common.{◌≡◌, refl, sym, ap, subst, ◌∙◌, ℕ, zero, suc, Bool, true, false, not, List, [], ◌∷◌, ◌++◌, append_assoc, append-nil, Option, Some, length, slice_get}
-use Rattle.wasm_operator_steps.specs.WasmSpecRules.WasmSpec.Syntax.{func_heap, Heap, abstract_heap, concrete, exact, Ref, Val, i32, reference, Table}
-use Rattle.wasm_operator_steps.specs.WasmSpecRules.WasmSpec.MatchingTests.{World, matches_heap, matches_val}
-use Rattle.wasm_operator_steps.specs.WasmSpecRules.Signatures.{Signature, resolve_ref}
+use Rattle.wasm_spec_steps.specs.WasmSpecRules.WasmSpec.Syntax.{func_heap, Heap, abstract_heap, concrete, exact, Ref, Val, i32, reference, Table}
+use Rattle.wasm_spec_steps.specs.WasmSpecRules.WasmSpec.MatchingTests.{World, matches_heap, matches_val}
+use Rattle.wasm_spec_steps.specs.WasmSpecRules.Signatures.{Signature, resolve_ref}
 use Rattle.wasm_operators.specs.Control as control
 use Rattle.wasm_operators.specs.Control.{Control, Parametric}
 use Rattle.wasm_operators.specs.Legacy as legacy
@@ -19,34 +19,34 @@ use Rattle.wasm_operators.specs.WasmOperatorsPlain.declared.calls.CallOperator.{
 use Rattle.wasm_operators.specs.WasmOperatorsPlain.declared.calls.CallOperator.TheVariants.{Call, CallIndirect, ReturnCall, ReturnCallIndirect, CallRef, ReturnCallRef}
 use Rattle.wasm_operators.specs.WasmOperatorsPlain.declared.variables.VariableOperator.{VariableOperator}
 use Rattle.wasm_operators.specs.WasmOperatorsPlain.declared.variables.VariableOperator.TheVariants.{LocalGet, LocalSet, LocalTee, GlobalGet, GlobalSet}
-use Rattle.wasm_operator_steps.specs.Bodies.{Local, Surroundings}
-use Rattle.wasm_operator_steps.specs.Actions.{of_tag, has, allows, reaches_type, reference_types, function_references, descriptor_operators, custom_descriptors}
-use Rattle.wasm_operator_steps.specs.Shapes.{shape_of, reference_to, branch_checks, kept, difference}
-use Rattle.wasm_operator_steps.specs.Meanings.{signature_at, function_heap, descriptor_heap, address}
+use Rattle.wasm_spec_steps.specs.Bodies.{Local, Surroundings}
+use Rattle.wasm_spec_steps.specs.Actions.{of_tag, has, allows, reaches_type, reference_types, function_references, descriptor_operators, custom_descriptors}
+use Rattle.wasm_spec_steps.specs.Shapes.{shape_of, reference_to, branch_checks, kept, difference}
+use Rattle.wasm_spec_steps.specs.Meanings.{signature_at, function_heap, descriptor_heap, address}
 use Rattle.wasm_spec_instructions.specs.Code.{Code}
 use Rattle.wasm_spec_instructions.specs.ValueTypes.{ValueType, val, vals, reference_at, reference_type, matches_type, Match, each, IsInOrder}
 use Rattle.wasm_spec_instructions.specs.Scopes.{Scope, is_set}
 use Rattle.wasm_spec_instructions.specs.Rules.{sets_of, MatchLabels, Rule, plain_rule}
 use Rattle.wasm_spec_instructions.specs.Sequences.{Typed}
 use Rattle.wasm_spec_instructions.specs.Names.{RulesByName}
-use Rattle.wasm_spec_instructions.specs.Fixed.{FixedTypes}
-use Rattle.wasm_spec_instructions.specs.Continued.{HandlesAll}
+use Rattle.wasm_spec_instructions.specs.FixedShapes.{FixedTypes}
+use Rattle.wasm_spec_instructions.specs.ContinuationShapes.{HandlesAll}
 use Rattle.wasm_spec_instructions.specs.Expressions.{body_scope}
 use Rattle.wasm_spec_instructions.proofs.Attempts.{no, the_same, absent}
-use Rattle.wasm_spec_instructions.proofs.Fits.{vals-append, val-through, true-match}
+use Rattle.wasm_spec_instructions.proofs.OperandFits.{vals-append, val-through, true-match}
 use Rattle.wasm_spec_instructions.proofs.Names.{instructions_have_their_rules}
-use Rattle.wasm_spec_instructions.proofs.Fixed.{fixed_types_have_their_rules}
-use Rattle.wasm_spec_instructions.proofs.Continued.{handles}
+use Rattle.wasm_spec_instructions.proofs.FixedTypeRules.{fixed_types_have_their_rules}
+use Rattle.wasm_spec_instructions.proofs.ContinuationRules.{handles}
 use Rattle.wasm_laws_values.specs.Values.{Value, i32_value, null, function_at, exception_at, other, Instance, Definition, defined, hosted, Function, Store, exception_heap, signature_in, is_of, HasType, is_i32, is_null, is_function, is_exception, is_other, HaveTypes, no_values, and_value}
 use Rattle.wasm_laws_values.specs.Outcomes.{State, branches, throws, calls_in_place, returns, traps, Outcome, falls_through, leaves, Resumed, Primitives, with_top, on_some, on_number, on_one, on_exception, on_function, on_reference, pick, either, on_choice, on_set, holding, writing, pushing, with_store, answered, on_answer, threw, entered, back}
-use Rattle.wasm_laws_values.specs.Fits.{Grows, Reaches, Carries, IsTypedCode, IsTypedFunction, InstanceFits, StoreFits, Fits, branching, returning, throwing, calling, rethrowing, delegating, trapping, waiting, IsPromised, falling, leaving}
+use Rattle.wasm_laws_values.specs.StoreValidity.{Grows, Reaches, Carries, IsTypedCode, IsTypedFunction, InstanceFits, StoreFits, Fits, branching, returning, throwing, calling, rethrowing, delegating, trapping, waiting, IsPromised, falling, leaving}
 use Rattle.wasm_laws_values.proofs.Values.{long, type-match, types-match, above-match, types-append, grows-refl, types-grow, must_hold, start-fits, get-last}
 use Rattle.wasm_laws_values.proofs.Outcomes.{with_top-promised, on_some-promised, pick-promised, either-promised, on_number-promised, on_one-promised, on_reference-promised, on_choice-promised, on_exception-promised, on_function-promised, func-of_functions, concrete-of_functions, fits-with, fits-now, fits-in, promised-since, lesser, put_on, writing-promised, answered-promised, on_answer-promised, threw-fits, back-fits, cast-has, cast-lacks}
 use Rattle.wasm_laws_soundness.specs.Roles as role
 use Rattle.wasm_laws_soundness.specs.Roles.{Callee, by_index, by_reference, by_table, role_of, handler_at, operand_count}
 use Rattle.wasm_laws_soundness.specs.Interpreter.{Task, does, invokes, label_for, finish, enter_function, with_function, invoke, invoke_in_place, if_of_type, with_callee, by_cast, is_described, by_description, resumed, step_as, step}
 use Rattle.wasm_laws_soundness.specs.Promises.{RefersToContinuation, IsResumed, it_ends, it_suspends}
-use Rattle.wasm_laws_soundness.proofs.Resuming.{with_descriptor, handler_is}
+use Rattle.wasm_laws_soundness.proofs.DescriptorsAndHandlers.{with_descriptor, handler_is}
 use Rattle.wasm_laws_soundness.specs.Laws.{AreSound}
 use Rattle.wasm_operators.specs.WasmOperatorsAtomic.SharedForms as shareds
 use Rattle.wasm_laws_soundness.proofs.Inversions.{sets-nothing, is_computing, counted, table-computes, access-computes, memory-computes, signature-computes, conversion-computes, struct-computes, array-computes, form-computes, wide-computes, access_form-computes, function_signed, gives_null as gives_a_null, selects_of, calls_by_reference, calls_by_table, calls_by_reference_in_place, calls_by_table_in_place, Casts, branches_on_cast as are_cast, branches_on_failure as are_not_cast}

@@ -1,9 +1,9 @@
 -- The same of what the verdict says: a valid module's types are accepted, and the rules type its bodies.
 use Rattle.std.proofs.Common.{refl, ℕ, nat_eq}
-use Rattle.wasm_spec.proofs.Accepted.{valid_type_section_is_accepted}
-use Rattle.wasm_operator_steps.specs.WasmSpecRules.Worlds.{world_of}
+use Rattle.wasm_spec.proofs.AcceptedSections.{valid_type_section_is_accepted}
+use Rattle.wasm_spec_steps.specs.WasmSpecRules.Worlds.{world_of}
 use Rattle.wasm_laws_instructions.proofs.Bodies.{bodies_are_typed}
-use Rattle.wasm_laws_instructions.proofs.Numbered.{is_in_order, has_no_sharing}
+use Rattle.wasm_laws_instructions.proofs.NumberedContexts.{is_in_order, has_no_sharing}
 use Rattle.wasm_laws_soundness.specs.Modules.{context_in, ValidModulesNeverGetStuck}
 use Rattle.wasm_laws_soundness.proofs.Modules.{runs-well}
 use Rattle.wasm_laws_soundness.proofs.Worlds.{functions-match}

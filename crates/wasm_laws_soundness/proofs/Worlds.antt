@@ -8,7 +8,7 @@ use Rattle.std.proofs.lemmas.Option.{slice_get-map}
 use Rattle.wasm_spec.specs.Syntax.{AbstractHeap, Heap, abstract_heap, concrete, exact, Val, i32, i64, f32, f64, v128, reference, Comp, func, array, struct, cont, Sub, map_heap, map_val, map_comp, map_sub}
 use Rattle.wasm_spec.specs.Features.{Features}
 use Rattle.wasm_spec.specs.References.{refs_option, refs_heap, refs_val, refs_comp}
-use Rattle.wasm_spec.specs.Declared.{supertype, supertype_of, ancestor_at}
+use Rattle.wasm_spec.specs.SupertypeOrder.{supertype, supertype_of, ancestor_at}
 use Rattle.wasm_spec.specs.ValueTypes.{implies}
 use Rattle.wasm_spec.specs.Matching.{kind_of, bottom_of, MatchesAbstract, MatchesHeap, MatchesVal, MatchesComp, MatchesSub}
 use Rattle.wasm_spec.specs.MatchingTests.{number_of, same_flag, same_abstract, matches_abstract, matches_kind, is_above_bottom, World, matches_heap, matches_val}
@@ -17,16 +17,16 @@ use Rattle.wasm_spec.specs.GroupRules.{IsValidType}
 use Rattle.wasm_spec.specs.TypeLaws.{AreAccepted}
 use Rattle.wasm_spec.proofs.Matching.{accepted_types_match_ancestors}
 use Rattle.wasm_spec.proofs.MatchingTests.{tests_decide_matching}
-use Rattle.wasm_operator_steps.specs.WasmSpecRules.Attempts.{◌>>=◌, passes}
-use Rattle.wasm_operator_steps.specs.WasmSpecRules.Contexts.{Context, AreFirst}
-use Rattle.wasm_operator_steps.specs.WasmSpecRules.Signatures.{Signature, signature_of}
-use Rattle.wasm_operator_steps.specs.WasmSpecRules.Worlds.{declared_in, is_below, world_of}
+use Rattle.wasm_spec_steps.specs.WasmSpecRules.Attempts.{◌>>=◌, passes}
+use Rattle.wasm_spec_steps.specs.WasmSpecRules.Contexts.{Context, AreFirst}
+use Rattle.wasm_spec_steps.specs.WasmSpecRules.Signatures.{Signature, signature_of}
+use Rattle.wasm_spec_steps.specs.WasmSpecRules.Worlds.{declared_in, is_below, world_of}
 use Rattle.wasm_spec_instructions.specs.ValueTypes.{vals, Match, none, each, IsInOrder}
 use Rattle.wasm_spec_instructions.proofs.Attempts.{no, the_same, absent, bind-gives, passes-gives}
-use Rattle.wasm_spec_instructions.proofs.Fits.{match-itself}
-use Rattle.wasm_laws_instructions.proofs.Numbered.{then_gives, from_map, place_of, contains_at, entries, Entry, entry_of, entry_for, kind-map}
+use Rattle.wasm_spec_instructions.proofs.OperandFits.{match-itself}
+use Rattle.wasm_laws_instructions.proofs.NumberedContexts.{then_gives, from_map, place_of, contains_at, entries, Entry, entry_of, entry_for, kind-map}
 use Rattle.wasm_laws_values.specs.Values.{signature_in}
-use Rattle.wasm_laws_values.specs.Fits.{FunctionsMatch}
+use Rattle.wasm_laws_values.specs.StoreValidity.{FunctionsMatch}
 use Rattle.wasm_laws_soundness.proofs.Steps.{vals-through}
 
 -- lists and truth values

@@ -1,10 +1,10 @@
 -- A small engine: numbers of 32 bits, memories of bytes, and structures; whatever else it is asked for traps. And in it the factorial, as a
 -- function that calls itself.
 use Rattle.std.specs.Prelude.{◌≡◌, ℕ, zero, suc, true, false, ◌+◌, ◌-◌, ◌*◌, ◌%◌, ◌^◌, ◌==◌, ℤ, pos, negsuc, List, [], ◌∷◌, ◌++◌, Option, Some, None, length, slice_get, slice_set}
-use Rattle.wasm_operator_steps.specs.WasmSpecRules.WasmSpec.Syntax.{Val, i32, func, Sub}
-use Rattle.wasm_operator_steps.specs.WasmSpecRules.WasmSpec.Features.{Features}
-use Rattle.wasm_operator_steps.specs.WasmSpecRules.WasmSpec.MatchingTests.{World}
-use Rattle.wasm_operator_steps.specs.WasmSpecRules.Attempts.{◌>>=◌}
+use Rattle.wasm_spec_steps.specs.WasmSpecRules.WasmSpec.Syntax.{Val, i32, func, Sub}
+use Rattle.wasm_spec_steps.specs.WasmSpecRules.WasmSpec.Features.{Features}
+use Rattle.wasm_spec_steps.specs.WasmSpecRules.WasmSpec.MatchingTests.{World}
+use Rattle.wasm_spec_steps.specs.WasmSpecRules.Attempts.{◌>>=◌}
 use Rattle.wasm_operators.specs.Control.{value_block}
 use Rattle.wasm_operators.specs.Instructions as instruction
 use Rattle.wasm_operators.specs.Instructions.{Instruction}
@@ -19,13 +19,13 @@ use Rattle.wasm_operators.specs.WasmOperatorsPlain.declared.numeric.NumericOpera
 use Rattle.wasm_operators.specs.WasmOperatorsPlain.declared.structs.StructOperator.{StructOperator}
 use Rattle.wasm_operators.specs.WasmOperatorsPlain.declared.structs.StructOperator.TheVariants.{StructNew, StructGet}
 use Rattle.wasm_operators.specs.WasmOperatorsPlain.declared.variables.VariableOperator.TheVariants.{LocalGet}
-use Rattle.wasm_operator_steps.specs.Bodies.{Surroundings}
-use Rattle.wasm_operator_steps.specs.FunctionBodies.{local_taken}
-use Rattle.wasm_operator_steps.specs.Meanings.{exact_if, field_at, unpack_field}
+use Rattle.wasm_spec_steps.specs.Bodies.{Surroundings}
+use Rattle.wasm_spec_steps.specs.FunctionBodies.{local_taken}
+use Rattle.wasm_spec_steps.specs.Meanings.{exact_if, field_at, unpack_field}
 use Rattle.wasm_spec_instructions.specs.Code.{Code, done, simply, choosing_between}
 use Rattle.wasm_laws_values.specs.Values.{Value, i32_value, other, Instance, defined, Function, Store}
 use Rattle.wasm_laws_values.specs.Outcomes.{State, falls_through, leaves, out_of_steps, Answer, gives, fails, ends, Primitives}
-use Rattle.wasm_laws_values.specs.Fits.{InstanceFits, StoreFits}
+use Rattle.wasm_laws_values.specs.StoreValidity.{InstanceFits, StoreFits}
 use Rattle.wasm_laws_soundness.specs.Interpreter.{does, invokes, run}
 use Rattle.wasm_laws_soundness.specs.Laws.{AreSound}
 

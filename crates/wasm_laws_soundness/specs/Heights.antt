@@ -3,15 +3,15 @@
 use Rattle.std.specs.Prelude.{◌≡◌, ℕ, zero, suc, Bool, true, false, ◌==◌, ◌+◌, List, [], ◌∷◌, ◌++◌, Some, length, slice_get}
 use Rattle.wasm_spec.specs.Features.{Features}
 use Rattle.wasm_spec.specs.MatchingTests.{World}
-use Rattle.wasm_operator_steps.specs.WasmSpecRules.Attempts.{◌>>=◌}
-use Rattle.wasm_operator_steps.specs.WasmSpecRules.Signatures.{Signature}
+use Rattle.wasm_spec_steps.specs.WasmSpecRules.Attempts.{◌>>=◌}
+use Rattle.wasm_spec_steps.specs.WasmSpecRules.Signatures.{Signature}
 use Rattle.wasm_operators.specs.Control.{Block, func_block}
 use Rattle.wasm_operators.specs.Instructions.{Instruction}
-use Rattle.wasm_operator_steps.specs.Bodies.{Surroundings}
-use Rattle.wasm_operator_steps.specs.Machine.{Frame}
-use Rattle.wasm_operator_steps.specs.Machine as machine
-use Rattle.wasm_operator_steps.specs.Meanings.{resolve_block, block_signature}
-use Rattle.wasm_operator_steps.specs.Steps.{start, steps_in}
+use Rattle.wasm_spec_steps.specs.Bodies.{Surroundings}
+use Rattle.wasm_spec_steps.specs.Machine.{Frame}
+use Rattle.wasm_spec_steps.specs.Machine as machine
+use Rattle.wasm_spec_steps.specs.Meanings.{resolve_block, block_signature}
+use Rattle.wasm_spec_steps.specs.Steps.{start, steps_in}
 use Rattle.wasm_spec_instructions.specs.Code.{Opening, a_loop, an_if, a_try, Handler, a_catch, a_catch_all, Code, done, simply, enclosing, choosing_between, handling, delegating_to, Handlers, last_handler, catch_before, written, handler_written, else_, flatten, block_of, is_done}
 use Rattle.wasm_spec_instructions.specs.ValueTypes.{vals}
 use Rattle.wasm_spec_instructions.specs.Expressions.{body_scope}
@@ -19,7 +19,7 @@ use Rattle.wasm_spec_instructions.specs.Sequences.{Typed}
 use Rattle.wasm_spec_validity.specs.Modules.{IsValidModule}
 use Rattle.wasm_laws_values.specs.Values.{Value, i32_value, Instance, defined, Function, Exception, Store, signature_in, HaveTypes}
 use Rattle.wasm_laws_values.specs.Outcomes.{State, branches, throws, falls_through, leaves, Primitives, cut, holding, label, entered}
-use Rattle.wasm_laws_values.specs.Fits.{StoreFits, Fits}
+use Rattle.wasm_laws_values.specs.StoreValidity.{StoreFits, Fits}
 use Rattle.wasm_laws_soundness.specs.Interpreter.{does, run}
 use Rattle.wasm_laws_soundness.specs.Promises.{KeepsPromises}
 use Rattle.wasm_laws_soundness.specs.Laws.{AreSound}

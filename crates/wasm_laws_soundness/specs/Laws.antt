@@ -1,15 +1,15 @@
 -- Typed code is never stuck. Core Specification 3.0, Appendix, Type Soundness (Theorem).
 use Rattle.std.specs.Prelude.{◌≡◌, ℕ, List, [], ◌++◌, Some, slice_get, length}
-use Rattle.wasm_operator_steps.specs.WasmSpecRules.WasmSpec.MatchingTests.{World}
-use Rattle.wasm_operator_steps.specs.WasmSpecRules.Signatures.{Signature}
-use Rattle.wasm_operator_steps.specs.Bodies.{Surroundings}
+use Rattle.wasm_spec_steps.specs.WasmSpecRules.WasmSpec.MatchingTests.{World}
+use Rattle.wasm_spec_steps.specs.WasmSpecRules.Signatures.{Signature}
+use Rattle.wasm_spec_steps.specs.Bodies.{Surroundings}
 use Rattle.wasm_spec_instructions.specs.Code.{Code}
 use Rattle.wasm_spec_instructions.specs.ValueTypes.{ValueType, vals, IsInOrder}
 use Rattle.wasm_spec_instructions.specs.Scopes.{Scope}
 use Rattle.wasm_spec_instructions.specs.Sequences.{Typed}
 use Rattle.wasm_laws_values.specs.Values.{Instance, Function, signature_in}
 use Rattle.wasm_laws_values.specs.Outcomes.{State, stuck, falls_through, leaves, Primitives}
-use Rattle.wasm_laws_values.specs.Fits.{Fits, IsPromised, FunctionsMatch}
+use Rattle.wasm_laws_values.specs.StoreValidity.{Fits, IsPromised, FunctionsMatch}
 use Rattle.wasm_laws_soundness.specs.Interpreter.{does, invokes, run}
 use Rattle.wasm_laws_soundness.specs.Promises.{KeepsPromises}
 

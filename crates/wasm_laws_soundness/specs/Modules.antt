@@ -5,23 +5,23 @@ use Rattle.std.specs.Option.{option_map}
 use Rattle.wasm_spec.specs.Features.{Features}
 use Rattle.wasm_spec.specs.Values.{list_at}
 use Rattle.wasm_spec.specs.MatchingTests.{World}
-use Rattle.wasm_operator_steps.specs.WasmSpecRules.Attempts.{◌>>=◌}
-use Rattle.wasm_operator_steps.specs.WasmSpecRules.Contexts.{Context}
-use Rattle.wasm_operator_steps.specs.WasmSpecRules.IndexSpaces.{index_spaces}
-use Rattle.wasm_operator_steps.specs.WasmSpecRules.Parts.{Parts}
-use Rattle.wasm_operator_steps.specs.WasmSpecRules.Signatures.{Signature, signature_of}
-use Rattle.wasm_operator_steps.specs.WasmSpecRules.Worlds.{world_of}
+use Rattle.wasm_spec_steps.specs.WasmSpecRules.Attempts.{◌>>=◌}
+use Rattle.wasm_spec_steps.specs.WasmSpecRules.Contexts.{Context}
+use Rattle.wasm_spec_steps.specs.WasmSpecRules.IndexSpaces.{index_spaces}
+use Rattle.wasm_spec_steps.specs.WasmSpecRules.Parts.{Parts}
+use Rattle.wasm_spec_steps.specs.WasmSpecRules.Signatures.{Signature, signature_of}
+use Rattle.wasm_spec_steps.specs.WasmSpecRules.Worlds.{world_of}
 use Rattle.wasm_operators.specs.Instructions.{Instruction}
-use Rattle.wasm_operator_steps.specs.Bodies.{Local, Surroundings}
-use Rattle.wasm_operator_steps.specs.FunctionBodies.{Declaration, declaration_at, declared_locals, local_taken, declared_at}
-use Rattle.wasm_operator_steps.specs.Sequences.{Are}
+use Rattle.wasm_spec_steps.specs.Bodies.{Local, Surroundings}
+use Rattle.wasm_spec_steps.specs.FunctionBodies.{Declaration, declaration_at, declared_locals, local_taken, declared_at}
+use Rattle.wasm_spec_steps.specs.Sequences.{Are}
 use Rattle.wasm_spec_instructions.specs.Code.{Code, Is}
 use Rattle.wasm_spec_instructions.specs.ValueTypes.{vals}
 use Rattle.wasm_spec_validity.specs.Modules.{context_of, IsValidModule}
 use Rattle.wasm_laws_instructions.specs.Bodies.{body_in}
 use Rattle.wasm_laws_values.specs.Values.{Value, Instance, defined, hosted, Function, Exception, Store, signature_in, HaveTypes}
 use Rattle.wasm_laws_values.specs.Outcomes.{State, stuck, falls_through, leaves, Primitives}
-use Rattle.wasm_laws_values.specs.Fits.{InstanceFits, IsTypedException}
+use Rattle.wasm_laws_values.specs.StoreValidity.{InstanceFits, IsTypedException}
 use Rattle.wasm_laws_soundness.specs.Interpreter.{invokes, run}
 use Rattle.wasm_laws_soundness.specs.Promises.{KeepsPromises}
 

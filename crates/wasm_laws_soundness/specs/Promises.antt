@@ -1,21 +1,21 @@
 -- What is asked of plain instructions, of tables, and of the host.
 -- Core Specification 3.0, Appendix, Type Soundness (Theorem, and Host Functions).
 use Rattle.std.specs.Prelude.{◌≡◌, ℕ, true, false, List, [], ◌∷◌, Some, slice_get}
-use Rattle.wasm_operator_steps.specs.WasmSpecRules.WasmSpec.Syntax.{Heap, Ref, Val, Table, reference}
-use Rattle.wasm_operator_steps.specs.WasmSpecRules.WasmSpec.MatchingTests.{World}
-use Rattle.wasm_operator_steps.specs.WasmSpecRules.Signatures.{Signature, resolve_ref}
+use Rattle.wasm_spec_steps.specs.WasmSpecRules.WasmSpec.Syntax.{Heap, Ref, Val, Table, reference}
+use Rattle.wasm_spec_steps.specs.WasmSpecRules.WasmSpec.MatchingTests.{World}
+use Rattle.wasm_spec_steps.specs.WasmSpecRules.Signatures.{Signature, resolve_ref}
 use Rattle.wasm_operators.specs.Instructions.{Instruction}
-use Rattle.wasm_operator_steps.specs.Bodies.{Surroundings}
+use Rattle.wasm_spec_steps.specs.Bodies.{Surroundings}
 use Rattle.wasm_operators.specs.WasmOperatorsProposals.declared.continuations.Handle.{Handle}
-use Rattle.wasm_operator_steps.specs.Actions.{of_tag}
-use Rattle.wasm_operator_steps.specs.Shapes.{shape_of}
-use Rattle.wasm_operator_steps.specs.Meanings.{address, signature_at, descriptor_heap, continued_signature}
+use Rattle.wasm_spec_steps.specs.Actions.{of_tag}
+use Rattle.wasm_spec_steps.specs.Shapes.{shape_of}
+use Rattle.wasm_spec_steps.specs.Meanings.{address, signature_at, descriptor_heap, continued_signature}
 use Rattle.wasm_spec_instructions.specs.ValueTypes.{ValueType, val, vals, reference_at, Match}
 use Rattle.wasm_spec_instructions.specs.Scopes.{Scope}
 use Rattle.wasm_spec_instructions.specs.Rules.{Rule}
 use Rattle.wasm_laws_values.specs.Values.{Value, Instance, hosted, Function, Store, signature_in, HasType, HaveTypes}
 use Rattle.wasm_laws_values.specs.Outcomes.{Answer, Resumed, ends, suspends, Primitives, with_exception}
-use Rattle.wasm_laws_values.specs.Fits.{Grows, InstanceFits, StoreFits, IsKept}
+use Rattle.wasm_laws_values.specs.StoreValidity.{Grows, InstanceFits, StoreFits, IsKept}
 use Rattle.wasm_laws_soundness.specs.Roles.{computing, resuming, role_of, handler_at}
 
 -- a type of references to continuations that take these types, or lesser ones, and give those, or greater ones

@@ -2,8 +2,8 @@
 -- Core Specification 3.0, Execution, Instructions.
 use Rattle.std.specs.Prelude.{ℕ, zero, suc, List, [], ◌∷◌, Option, Some, None, length}
 use Rattle.std.specs.Option.{option_map}
-use Rattle.wasm_operator_steps.specs.WasmSpecRules.WasmSpec.Syntax.{Ref}
-use Rattle.wasm_operator_steps.specs.WasmSpecRules.WasmSpec.MatchingTests.{World}
+use Rattle.wasm_spec_steps.specs.WasmSpecRules.WasmSpec.Syntax.{Ref}
+use Rattle.wasm_spec_steps.specs.WasmSpecRules.WasmSpec.MatchingTests.{World}
 use Rattle.wasm_operators.specs.Control as control
 use Rattle.wasm_operators.specs.Control.{Control, Parametric}
 use Rattle.wasm_operators.specs.Legacy as legacy
@@ -20,8 +20,8 @@ use Rattle.wasm_operators.specs.WasmOperatorsPlain.declared.calls.CallOperator.{
 use Rattle.wasm_operators.specs.WasmOperatorsPlain.declared.calls.CallOperator.TheVariants.{Call, CallIndirect, ReturnCall, ReturnCallIndirect, CallRef, ReturnCallRef}
 use Rattle.wasm_operators.specs.WasmOperatorsPlain.declared.variables.VariableOperator.{VariableOperator}
 use Rattle.wasm_operators.specs.WasmOperatorsPlain.declared.variables.VariableOperator.TheVariants.{LocalGet, LocalSet, LocalTee}
-use Rattle.wasm_operator_steps.specs.Bodies.{Surroundings}
-use Rattle.wasm_operator_steps.specs.Shapes.{Shape, plain, measuring, comparing, converting, describing}
+use Rattle.wasm_spec_steps.specs.Bodies.{Surroundings}
+use Rattle.wasm_spec_steps.specs.Shapes.{Shape, plain, measuring, comparing, converting, describing}
 use Rattle.wasm_spec_instructions.specs.Scopes.{types_in}
 
 -- which function is called: the one of an index; the one that the top operand refers to; or the one that a table has there, where it is of

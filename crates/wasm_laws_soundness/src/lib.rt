@@ -9,7 +9,7 @@ ghost use Rattle.wasm_laws_soundness.specs.Laws.{FunctionsAreSound, HeightsAreAs
 ghost use Rattle.wasm_laws_soundness.specs.Modules.{ValidModulesNeverGetStuck};
 
 /// Whatever the rules type runs, for every number of steps, to an outcome that its typing promises.
-#[tactic(auto, using(crate::proofs::Main::soundness))]
+#[tactic(auto, using(crate::proofs::SoundnessTheorem::soundness))]
 pub fn typed_code_is_sound<R>()
     ensures { Soundness R }
 {}
@@ -21,13 +21,13 @@ pub fn typed_code_is_never_stuck<R>()
 
 /// A function of a store that fits, called with arguments of its types, gives results of its types
 /// or leaves as it may.
-#[tactic(auto, using(crate::proofs::Main::functions_are_sound))]
+#[tactic(auto, using(crate::proofs::SoundnessTheorem::functions_are_sound))]
 pub fn functions_are_sound<R>()
     ensures { FunctionsAreSound R }
 {}
 
 /// Code that falls through leaves as many operands as its typing says.
-#[tactic(auto, using(crate::proofs::Main::heights_are_as_typed))]
+#[tactic(auto, using(crate::proofs::SoundnessTheorem::heights_are_as_typed))]
 pub fn heights_are_as_typed<R>()
     ensures { HeightsAreAsTyped R }
 {}

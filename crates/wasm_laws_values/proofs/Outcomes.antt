@@ -1,17 +1,17 @@
 -- Outcomes that are as promised: what is done with the uppermost operands, with labels and with exceptions.
 use Rattle.std.proofs.Common.{◌≡◌, refl, sym, ap, subst, ◌∙◌, ℕ, zero, suc, Bool, true, false, not, List, [], ◌∷◌, ◌++◌, append_assoc, Option, Some, None, length, slice_get, is_some}
-use Rattle.wasm_operator_steps.specs.WasmSpecRules.WasmSpec.Syntax.{AbstractHeap, func_heap, nofunc_heap, exn_heap, noexn_heap, Heap, abstract_heap, concrete, exact, Ref, Val, i32, reference, Comp, func, array, struct, cont, Sub}
-use Rattle.wasm_operator_steps.specs.WasmSpecRules.WasmSpec.Matching.{kind_of, bottom_of}
-use Rattle.wasm_operator_steps.specs.WasmSpecRules.WasmSpec.MatchingTests.{World, same_flag, same_abstract, matches_abstract, matches_kind, is_above_bottom, matches_heap}
-use Rattle.wasm_operator_steps.specs.WasmSpecRules.Attempts.{◌>>=◌, passes}
-use Rattle.wasm_operator_steps.specs.WasmSpecRules.Signatures.{Signature, signature_of}
-use Rattle.wasm_operator_steps.specs.Bodies.{Local, Surroundings}
+use Rattle.wasm_spec_steps.specs.WasmSpecRules.WasmSpec.Syntax.{AbstractHeap, func_heap, nofunc_heap, exn_heap, noexn_heap, Heap, abstract_heap, concrete, exact, Ref, Val, i32, reference, Comp, func, array, struct, cont, Sub}
+use Rattle.wasm_spec_steps.specs.WasmSpecRules.WasmSpec.Matching.{kind_of, bottom_of}
+use Rattle.wasm_spec_steps.specs.WasmSpecRules.WasmSpec.MatchingTests.{World, same_flag, same_abstract, matches_abstract, matches_kind, is_above_bottom, matches_heap}
+use Rattle.wasm_spec_steps.specs.WasmSpecRules.Attempts.{◌>>=◌, passes}
+use Rattle.wasm_spec_steps.specs.WasmSpecRules.Signatures.{Signature, signature_of}
+use Rattle.wasm_spec_steps.specs.Bodies.{Local, Surroundings}
 use Rattle.wasm_spec_instructions.specs.ValueTypes.{ValueType, val, vals, reference_at, reference_type, Match, IsInOrder}
 use Rattle.wasm_spec_instructions.specs.Scopes.{Scope, inside, in_handler, behind, is_set, AreSet}
 use Rattle.wasm_spec_instructions.proofs.Attempts.{no, the_same, absent, and-both}
 use Rattle.wasm_laws_values.specs.Values.{Value, function_at, exception_at, other, Instance, Function, Exception, Store, exception_heap, is_callable, signature_in, is_apart, is_of, HasType, is_i32, is_null, is_null_of_bot, is_function, is_exception, is_other, HaveTypes, no_values, and_value}
 use Rattle.wasm_laws_values.specs.Outcomes.{State, Exit, traps, Outcome, falls_through, leaves, Answer, Primitives, on_cut, with_top, on_some, on_number, on_one, on_exception, on_function, on_reference, pick, either, on_choice, put, holding, writing, next, with_store, answered, on_answer, leaving_block, label, again_from, handed, in_block, in_either, with_exception, threw, catching, back}
-use Rattle.wasm_laws_values.specs.Fits.{Grows, Reaches, IsTypedException, InstanceFits, IsTypedFunction, StoreFits, IsKept, gives_them, may_raise, may_fail, Fits, MayLeave, branching, returning, throwing, calling, rethrowing, delegating, trapping, waiting, IsPromised, falling, leaving, FunctionsMatch}
+use Rattle.wasm_laws_values.specs.StoreValidity.{Grows, Reaches, IsTypedException, InstanceFits, IsTypedFunction, StoreFits, IsKept, gives_them, may_raise, may_fail, Fits, MayLeave, branching, returning, throwing, calling, rethrowing, delegating, trapping, waiting, IsPromised, falling, leaving, FunctionsMatch}
 use Rattle.wasm_laws_values.proofs.Values.{long, above-match, types-append, cut-fits, grows-refl, grows-trans, types-grow, locals-grow, locals-less, set-behind, set-told, Written, written-fits, get-append, one-more}
 
 module _ {R : Type 0} (Q : Outcome R → Type 0) where

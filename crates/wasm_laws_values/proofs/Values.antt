@@ -3,19 +3,19 @@ use Rattle.std.proofs.Common.{◌≡◌, refl, sym, ap, subst, ◌∙◌, ℕ, z
 use Rattle.std.proofs.Math.Seq.{take-append_seam, drop-append_seam}
 use Rattle.std.proofs.lemmas.List.{length-append}
 use Rattle.std.proofs.lemmas.Bool.{le-leb, eqb-true, eqb-false}
-use Rattle.wasm_operator_steps.specs.WasmSpecRules.WasmSpec.Syntax.{exact, Ref, Val, i32, i64, f32, f64, v128, reference}
-use Rattle.wasm_operator_steps.specs.WasmSpecRules.WasmSpec.ValueTypes.{implies}
-use Rattle.wasm_operator_steps.specs.WasmSpecRules.WasmSpec.Defaults.{has_default}
-use Rattle.wasm_operator_steps.specs.WasmSpecRules.WasmSpec.MatchingTests.{World, matches_heap}
-use Rattle.wasm_operator_steps.specs.WasmSpecRules.Attempts.{passes, among}
-use Rattle.wasm_operator_steps.specs.Bodies.{Local, Surroundings}
-use Rattle.wasm_operator_steps.specs.FunctionBodies.{local_taken, local_declared}
+use Rattle.wasm_spec_steps.specs.WasmSpecRules.WasmSpec.Syntax.{exact, Ref, Val, i32, i64, f32, f64, v128, reference}
+use Rattle.wasm_spec_steps.specs.WasmSpecRules.WasmSpec.ValueTypes.{implies}
+use Rattle.wasm_spec_steps.specs.WasmSpecRules.WasmSpec.Defaults.{has_default}
+use Rattle.wasm_spec_steps.specs.WasmSpecRules.WasmSpec.MatchingTests.{World, matches_heap}
+use Rattle.wasm_spec_steps.specs.WasmSpecRules.Attempts.{passes, among}
+use Rattle.wasm_spec_steps.specs.Bodies.{Local, Surroundings}
+use Rattle.wasm_spec_steps.specs.FunctionBodies.{local_taken, local_declared}
 use Rattle.wasm_spec_instructions.specs.ValueTypes.{ValueType, bot, reference_to_bot, val, vals, matches_type, Match, none, each, IsInOrder}
 use Rattle.wasm_spec_instructions.specs.Scopes.{is_set, AreSet}
 use Rattle.wasm_spec_instructions.proofs.Attempts.{no, the_same, absent, and-both}
 use Rattle.wasm_laws_values.specs.Values.{Value, Store, exception_heap, HasType, is_i32, is_i64, is_f32, is_f64, is_v128, is_null, is_null_of_bot, is_function, is_exception, is_other, HaveTypes, no_values, and_value}
 use Rattle.wasm_laws_values.specs.Outcomes.{Primitives, cut_if, cut, with_head, put, null_if, default, start_locals}
-use Rattle.wasm_laws_values.specs.Fits.{Grows, Holds, unset, held, LocalsFit}
+use Rattle.wasm_laws_values.specs.StoreValidity.{Grows, Holds, unset, held, LocalsFit}
 use Rattle.wasm_laws_values.specs.Laws.{ValuesHaveGreaterTypes, ValuesKeepTheirTypes}
 
 pub length-vals : {R : Type 0} (vs : List (Val R)) → length (vals vs) ≡ length vs

@@ -1,10 +1,10 @@
 -- Values of a type are of each type that it matches, and stay of their types where a store grows.
 use Rattle.std.specs.Prelude.{List}
-use Rattle.wasm_operator_steps.specs.WasmSpecRules.WasmSpec.MatchingTests.{World}
+use Rattle.wasm_spec_steps.specs.WasmSpecRules.WasmSpec.MatchingTests.{World}
 use Rattle.wasm_spec_instructions.specs.ValueTypes.{ValueType, Match, IsInOrder}
 use Rattle.wasm_laws_values.specs.Values.{Value, Store, HaveTypes}
 use Rattle.wasm_laws_values.specs.Outcomes.{Primitives}
-use Rattle.wasm_laws_values.specs.Fits.{Grows}
+use Rattle.wasm_laws_values.specs.StoreValidity.{Grows}
 
 abbrev pub ValuesHaveGreaterTypes : (R : Type 0) → Type 0
 ValuesHaveGreaterTypes R =

@@ -1,4 +1,4 @@
 pub mod Values
 pub mod Outcomes
-pub mod Fits
+pub mod StoreValidity
 pub mod Laws

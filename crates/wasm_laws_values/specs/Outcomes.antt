@@ -2,10 +2,10 @@
 -- Core Specification 3.0, Execution, Runtime Structure (Stack) and Instructions (Control Instructions); and the legacy exception-handling
 -- proposal.
 use Rattle.std.specs.Prelude.{ℕ, zero, suc, Bool, true, false, ◌-◌, nat_le, List, [], ◌∷◌, ◌++◌, Option, Some, None, length, take, drop, slice_get}
-use Rattle.wasm_operator_steps.specs.WasmSpecRules.WasmSpec.Syntax.{Val, i32, i64, f32, f64, v128, reference}
-use Rattle.wasm_operator_steps.specs.WasmSpecRules.Signatures.{Signature}
+use Rattle.wasm_spec_steps.specs.WasmSpecRules.WasmSpec.Syntax.{Val, i32, i64, f32, f64, v128, reference}
+use Rattle.wasm_spec_steps.specs.WasmSpecRules.Signatures.{Signature}
 use Rattle.wasm_operators.specs.Instructions.{Instruction}
-use Rattle.wasm_operator_steps.specs.Bodies.{Local, Surroundings}
+use Rattle.wasm_spec_steps.specs.Bodies.{Local, Surroundings}
 use Rattle.wasm_laws_values.specs.Values.{Value, i32_value, i64_value, f32_value, f64_value, v128_value, null, function_at, exception_at, other, Instance, Exception, Store}
 
 -- the operands of the innermost block, the last one on top; the locals, each of which may be unset; and the store

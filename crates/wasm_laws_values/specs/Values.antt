@@ -2,11 +2,11 @@
 -- Core Specification 3.0, Execution, Runtime Structure (Values, Store, Module Instances, Function Instances, Exception Instances), and
 -- Appendix, Type Soundness (Values).
 use Rattle.std.specs.Prelude.{◌≡◌, ℕ, Bool, true, false, List, [], ◌∷◌, Option, Some, slice_get, is_some, not}
-use Rattle.wasm_operator_steps.specs.WasmSpecRules.WasmSpec.Syntax.{AbstractHeap, func_heap, nofunc_heap, exn_heap, noexn_heap, Heap, abstract_heap, concrete, exact, Ref, Val, i32, i64, f32, f64, v128, reference}
-use Rattle.wasm_operator_steps.specs.WasmSpecRules.WasmSpec.MatchingTests.{World, matches_heap}
-use Rattle.wasm_operator_steps.specs.WasmSpecRules.Attempts.{◌>>=◌, passes}
-use Rattle.wasm_operator_steps.specs.WasmSpecRules.Signatures.{Signature, signature_of}
-use Rattle.wasm_operator_steps.specs.Bodies.{Surroundings}
+use Rattle.wasm_spec_steps.specs.WasmSpecRules.WasmSpec.Syntax.{AbstractHeap, func_heap, nofunc_heap, exn_heap, noexn_heap, Heap, abstract_heap, concrete, exact, Ref, Val, i32, i64, f32, f64, v128, reference}
+use Rattle.wasm_spec_steps.specs.WasmSpecRules.WasmSpec.MatchingTests.{World, matches_heap}
+use Rattle.wasm_spec_steps.specs.WasmSpecRules.Attempts.{◌>>=◌, passes}
+use Rattle.wasm_spec_steps.specs.WasmSpecRules.Signatures.{Signature, signature_of}
+use Rattle.wasm_spec_steps.specs.Bodies.{Surroundings}
 use Rattle.wasm_spec_instructions.specs.Code.{Code}
 use Rattle.wasm_spec_instructions.specs.ValueTypes.{ValueType, reference_to_bot, val}
 

@@ -6,7 +6,7 @@ use Rattle.wasm_operators_proposals.specs.WasmOperatorsPlain.WasmSpec.Values.{by
 use Rattle.wasm_operators_proposals.specs.WasmOperatorsPlain.WasmSpec.BinaryTypes.{val_at}
 use Rattle.wasm_operators_proposals.proofs.WasmOperatorsPlain.WasmSpec.Front.{Reads, reads_none, reads_here, reads_value, reads_behind, reads_weaken, reads_if, reads_map, reads_then, reads_list, signed-reads, heap-reads, val-reads}
 use Rattle.wasm_operators_proposals.specs.WasmOperatorsPlain.Numeric.{numeric_from, saturating_from}
-use Rattle.wasm_operators_proposals.specs.WasmOperatorsAtomic.Wide.{wide_from}
+use Rattle.wasm_operators_proposals.specs.WasmOperatorsAtomic.WideArithmetic.{wide_from}
 use Rattle.wasm_operators_proposals.specs.WasmOperatorsPlain.Memories.{access_from}
 use Rattle.wasm_operators_proposals.specs.WasmOperatorsPlain.Conversions.{conversion_from, shared_from}
 use Rattle.wasm_operators_proposals.specs.WasmOperatorsPlain.declared.memories.MemoryOperator.{MemoryOperator}

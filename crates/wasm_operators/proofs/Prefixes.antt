@@ -2,7 +2,7 @@
 use Rattle.std.proofs.Common.{◌≡◌, refl, ℕ, List, ◌∷◌, Option, Some, None}
 use Rattle.std.specs.Option.{option_and_then}
 use Rattle.wasm_operators_proposals.specs.WasmOperatorsPlain.WasmSpec.Values.{u32_at}
-use Rattle.wasm_operators_proposals.specs.WasmOperatorsPlain.WasmReaders.Written.{written}
+use Rattle.wasm_operators_proposals.specs.WasmOperatorsPlain.WasmReaders.WrittenIndices.{written}
 use Rattle.wasm_operators.specs.Instructions.{prefixed_from, instruction_at}
 
 none_behind : (o : Option (ℕ × List ℕ)) → option_and_then (λ n. prefixed_from written 255 n.0 n.1) o ≡ None

@@ -3,7 +3,7 @@ use Rattle.std.proofs.Common.{refl, ℕ, nat_lt, ◌==◌, List, Option, Some, N
 use Rattle.wasm_operators_proposals.specs.WasmOperatorsPlain.WasmSpec.Values.{byte_at, u32_at, s33_index_at, list_at}
 use Rattle.wasm_operators_proposals.proofs.WasmOperatorsPlain.WasmSpec.Renaming.{Renames, renames_none, renames_some, renames_if, renames_then, renames_map, renames_same_then, renames_same_map, renames_list, heap-renames, val-renames}
 use Rattle.wasm_operators_proposals.specs.WasmOperatorsPlain.Numeric.{numeric_from, saturating_from}
-use Rattle.wasm_operators_proposals.specs.WasmOperatorsAtomic.Wide.{wide_from}
+use Rattle.wasm_operators_proposals.specs.WasmOperatorsAtomic.WideArithmetic.{wide_from}
 use Rattle.wasm_operators_proposals.specs.WasmOperatorsPlain.Calls.{call_from}
 use Rattle.wasm_operators_proposals.specs.WasmOperatorsPlain.Variables.{variable_from}
 use Rattle.wasm_operators_proposals.specs.WasmOperatorsPlain.Tables.{table_access_from, table_from}

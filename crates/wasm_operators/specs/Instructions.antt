@@ -11,7 +11,7 @@ use Rattle.wasm_operators_proposals.specs.WasmOperatorsPlain.Tables.{table_acces
 use Rattle.wasm_operators_proposals.specs.WasmOperatorsPlain.Memories.{access_from, memarg_at, memory_size_from, memory_from}
 use Rattle.wasm_operators_proposals.specs.WasmOperatorsPlain.Constants.{constant_from, vector_from}
 use Rattle.wasm_operators_proposals.specs.WasmOperatorsPlain.Numeric.{numeric_from, saturating_from}
-use Rattle.wasm_operators_proposals.specs.WasmOperatorsAtomic.Wide.{wide_from}
+use Rattle.wasm_operators_proposals.specs.WasmOperatorsAtomic.WideArithmetic.{wide_from}
 use Rattle.wasm_operators.specs.Continuations.{Continuation, continuation_from}
 use Rattle.wasm_operators.specs.References.{Reference, Cast, reference_from, cast_from}
 use Rattle.wasm_operators_proposals.specs.WasmOperatorsPlain.Conversions.{conversion_from, shared_from}

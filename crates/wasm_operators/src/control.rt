@@ -4,7 +4,7 @@ ghost use Rattle.std.specs.Prelude.{◌≡◌, ◌≤◌, ◌<◌, ◌+◌, Some
 ghost use Rattle.wasm_operators_proposals.specs.WasmOperatorsPlain.WasmSpec.Values.{list_at};
 ghost use Rattle.wasm_operators_proposals.specs.WasmOperatorsPlain.WasmSpec.BinaryTypes.{val_at};
 ghost use Rattle.wasm_operators_proposals.specs.WasmOperatorsPlain.WasmReaders.WasmReadersBytes.Reader.{SameInput, position_in, original, rest, RefusedFrom};
-ghost use Rattle.wasm_operators_proposals.specs.WasmOperatorsPlain.WasmReaders.Written.{written};
+ghost use Rattle.wasm_operators_proposals.specs.WasmOperatorsPlain.WasmReaders.WrittenIndices.{written};
 ghost use Rattle.wasm_operators_proposals.specs.WasmOperatorsPlain.Refusals.{RefusedBetween};
 ghost use Rattle.wasm_operators.specs.Control.{block_at, catch_at, br_table_at, try_table_at, control_from, parametric_from};
 ghost use Rattle.wasm_operators.specs.SeenControl.{block_of, labels_of, catches_of, control_of, parametric_of};

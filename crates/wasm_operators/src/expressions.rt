@@ -2,7 +2,7 @@
 
 ghost use Rattle.std.specs.Prelude.{◌≡◌, ◌≤◌, ◌<◌, ◌+◌, ◌^◌, Some, None, IfOk, IfErr, OnOk, OnErr, length};
 ghost use Rattle.wasm_operators_proposals.specs.WasmOperatorsPlain.WasmReaders.WasmReadersBytes.Reader.{SameInput, input, position_in, original, rest, RefusedFrom};
-ghost use Rattle.wasm_operators_proposals.specs.WasmOperatorsPlain.WasmReaders.Written.{written};
+ghost use Rattle.wasm_operators_proposals.specs.WasmOperatorsPlain.WasmReaders.WrittenIndices.{written};
 ghost use Rattle.wasm_operators.specs.Expressions.{nesting_of, depth_after, behind_expression, expression_at};
 ghost use Rattle.wasm_operators.specs.SeenOperators.{operator_of};
 

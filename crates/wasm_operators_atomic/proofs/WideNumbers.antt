@@ -2,7 +2,7 @@
 use Rattle.std.proofs.Common.{◌≡◌, refl, Some}
 use Rattle.wasm_operators_vector.specs.Tables.{entry, IsTableOf}
 use Rattle.wasm_operators_vector.proofs.Entries.{table_of}
-use Rattle.wasm_operators_atomic.specs.Wide.{wide_code, wide_from, wide_operators}
+use Rattle.wasm_operators_atomic.specs.WideArithmetic.{wide_code, wide_from, wide_operators}
 use Rattle.wasm_operators_atomic.specs.declared.wide.WideOperator.{WideOperator}
 use Rattle.wasm_operators_atomic.specs.declared.wide.WideOperator.TheVariants.{I64Add128, I64Sub128, I64MulWideS, I64MulWideU}
 

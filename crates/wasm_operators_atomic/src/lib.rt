@@ -4,7 +4,7 @@
 
 ghost use Rattle.wasm_operators_vector.specs.Tables.{IsTableOf};
 ghost use Rattle.wasm_operators_atomic.specs.Codes.{operator_code, operator_from};
-ghost use Rattle.wasm_operators_atomic.specs.Wide.{wide_code, wide_from};
+ghost use Rattle.wasm_operators_atomic.specs.WideArithmetic.{wide_code, wide_from};
 ghost use Rattle.wasm_operators_atomic.specs.SharedCodes.{shared_code, shared_operator_from};
 
 mod forms;

@@ -1,7 +1,7 @@
 //! Operators on integers of 128 bits.
 
 ghost use Rattle.std.specs.Prelude.{◌≡◌, ◌≢◌, IfSome, IfNone};
-ghost use Rattle.wasm_operators_atomic.specs.Wide.{wide_code, wide_from};
+ghost use Rattle.wasm_operators_atomic.specs.WideArithmetic.{wide_code, wide_from};
 ghost use Rattle.wasm_operators_atomic.specs.declared.wide.WideOperator.{WideOperator};
 
 /// The operators on integers of 128 bits, each in two halves of 64 bits, the lower one below the

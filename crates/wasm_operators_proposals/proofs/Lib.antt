@@ -1,3 +1,3 @@
 pub use Rattle.wasm_operators_plain.proofs as WasmOperatorsPlain
-pub mod Listing
+pub mod ListReads
 pub mod Fronts

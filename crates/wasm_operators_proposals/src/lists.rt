@@ -3,7 +3,7 @@
 ghost use Rattle.std.specs.Prelude.{◌≡◌, ◌≤◌, ◌<◌, ℕ, List, Option, Some, None, IfOk, IfErr, OnOk, OnErr, length};
 ghost use Rattle.wasm_operators_plain.specs.WasmSpec.Values.{list_at, many_at, u32_at};
 ghost use Rattle.wasm_operators_plain.specs.WasmSpec.BinaryTypes.{val_at};
-ghost use Rattle.wasm_operators_plain.specs.WasmReaders.Written.{written};
+ghost use Rattle.wasm_operators_plain.specs.WasmReaders.WrittenIndices.{written};
 ghost use Rattle.wasm_operators_plain.specs.WasmReaders.WasmReadersBytes.Reader.{SameInput, position_in, rest, RefusedFrom};
 ghost use Rattle.wasm_operators_proposals.specs.SeenLists.{listed, items_left, behind};
 
@@ -105,7 +105,7 @@ impl<'a, T: Immediate<'a>> Iterator for ListedItems<'a, T> {
 
     ghost remaining = { λ s. at_most (most_left s) };
 
-    #[tactic(auto, using(crate::proofs::Listing::next_laws))]
+    #[tactic(auto, using(crate::proofs::ListReads::next_laws))]
     fn next(&mut self) -> Option<T> {
         if self.count == 0 {
             return None;
@@ -124,7 +124,7 @@ impl<'a, T: Immediate<'a>> Iterator for ListedItems<'a, T> {
 }
 
 /// A list: a count, and that many items.
-#[tactic(auto, using(crate::proofs::Listing::list_laws))]
+#[tactic(auto, using(crate::proofs::ListReads::list_laws))]
 pub fn read_listed<'a, T: Immediate<'a>>(
     reader: &mut BinaryReader<'a>,
 ) -> Result<Listed<'a, T>, Refusal>

@@ -14,8 +14,8 @@ use Rattle.wasm_parser.specs.Machine.{State, start, at_sections, version_of, num
 use Rattle.wasm_parser.proofs.Steps.{then_some, not_end, gives, guarded, unless, some_is, at_start}
 use Rattle.wasm_parser.proofs.Order.{to_order, from_order, below_zero}
 use Rattle.wasm_parser.proofs.Counts.{without_end, with_end}
-use Rattle.wasm_parser.proofs.Forward.{run_completes}
-use Rattle.wasm_parser.proofs.Backward.{completes_run}
+use Rattle.wasm_parser.proofs.RemaindersOfRuns.{run_completes}
+use Rattle.wasm_parser.proofs.RunsOfRemainders.{completes_run}
 
 abbrev pub behind_header : List ℕ → State
 behind_header rest = record { stage = at_sections; bytes = rest; place = 0; code = []; left = 0; counts = nothing_yet }

@@ -1,8 +1,8 @@
 pub mod Order
 pub mod Steps
 pub mod Counts
-pub mod Forward
-pub mod Backward
+pub mod RemaindersOfRuns
+pub mod RunsOfRemainders
 pub mod Law
-pub mod Onward
-pub mod Falls
+pub mod RunFronts
+pub mod PieceCounts

@@ -1,5 +1,5 @@
 pub mod Machine
-pub mod Seen
+pub mod PayloadViews
 pub mod Places
 pub mod Laws
 pub mod Locals

@@ -4,10 +4,10 @@ use Rattle.std.specs.Option.{option_map, option_and_then}
 use Rattle.wasm_spec.specs.Syntax.{Val}
 use Rattle.wasm_spec.specs.Values.{u32_at, list_at}
 use Rattle.wasm_spec.specs.BinaryTypes.{val_at}
-use Rattle.wasm_items.specs.WasmReaders.Written.{written}
+use Rattle.wasm_items.specs.WasmReaders.WrittenIndices.{written}
 use Rattle.wasm_items.specs.WasmReaders.WasmReadersTypes.WasmReadersValues.declared.indices.UnpackedIndex.{UnpackedIndex}
 
--- So many locals of one type, whose type index is as it is written. wasm_operator_steps `FunctionBodies` reads the same, with the number
+-- So many locals of one type, whose type index is as it is written. wasm_spec_steps `FunctionBodies` reads the same, with the number
 -- of that index.
 pub record Declaration : Type 0 where
   pub count : ℕ

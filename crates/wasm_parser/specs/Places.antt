@@ -12,7 +12,7 @@ use Rattle.wasm_parser.specs.declared.parser.Progress.{Progress}
 use Rattle.wasm_parser.specs.declared.parser.Progress.TheVariants as stages
 use Rattle.wasm_spec.specs.Framing.{section_at}
 use Rattle.wasm_parser.specs.Machine.{Stage, State, at_header, at_sections, ended, failed}
-use Rattle.wasm_parser.specs.Seen.{data_reader, body_reader}
+use Rattle.wasm_parser.specs.PayloadViews.{data_reader, body_reader}
 
 -- the offset of the byte behind a reader's last
 abbrev pub reader_end : BinaryReader → ℕ

@@ -1,7 +1,7 @@
 ghost use Rattle.std.specs.Prelude.{◌≡◌, ◌+◌, length, Some, None, IfOk, IfErr, OnErr};
 ghost use Rattle.wasm_spec.specs.Values.{name_at};
 ghost use Rattle.wasm_items.specs.WasmReaders.WasmReadersBytes.Reader.{input, SameInput, position_in, original, rest, RefusedFrom};
-ghost use Rattle.wasm_parser.specs.Seen.{name_of, data_of, data_reader};
+ghost use Rattle.wasm_parser.specs.PayloadViews.{name_of, data_of, data_reader};
 
 use std::ops::Range;
 use wasm_items::readers::BinaryReader;

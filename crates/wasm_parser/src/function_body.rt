@@ -6,7 +6,7 @@ ghost use Rattle.wasm_items.specs.WasmReaders.WasmReadersBytes.Reader.{input, Sa
 ghost use Rattle.wasm_items.specs.WasmOperators.SeenLists.{behind};
 ghost use Rattle.wasm_items.specs.SeenReaders.{operators_left};
 ghost use Rattle.wasm_parser.specs.Locals.{locals_at};
-ghost use Rattle.wasm_parser.specs.Seen.{body_of, body_reader};
+ghost use Rattle.wasm_parser.specs.PayloadViews.{body_of, body_reader};
 ghost use Rattle.wasm_parser.specs.SeenLocals.{locals_count, locals_left};
 
 use crate::locals::{LocalDeclaration, LocalsReader};

@@ -4,7 +4,7 @@ ghost use Rattle.std.specs.Option.{option_map};
 ghost use Rattle.wasm_items.specs.WasmReaders.WasmReadersBytes.Reader.{SameInput, position_in, original, rest, RefusedFrom};
 ghost use Rattle.wasm_spec.specs.Framing.{place, piece_of, number_of, agrees, u16_at};
 ghost use Rattle.wasm_parser.specs.Machine.{start, core_header, header_of, numbers_of, entry_of, contents_of, alone_of, section_of, ending_of, part_of, behind, at_sections, failed, next_of};
-ghost use Rattle.wasm_parser.specs.Seen.{offset_of, seen, state};
+ghost use Rattle.wasm_parser.specs.PayloadViews.{offset_of, seen, state};
 ghost use Rattle.wasm_parser.specs.Places.{reader_end, IsPartOf, OfSameInput, IsInInput, ReadsInput, starts_at, ends_at, stands_at, stands_in_code, input_end, section_size, body_size, part_size, part_end, next_size, next_end, IsFormat, refused_with, CodeIsLast, BodiesAreLast};
 
 use crate::custom_section::CustomSectionReader;
@@ -514,7 +514,7 @@ impl<'a, A: Allocator + Copy> Iterator for ParseAll<'a, A> {
 
     ghost use Rattle.std.specs.Iterator.{at_most};
     ghost use Rattle.wasm_parser.specs.Machine.{most_left};
-    ghost use Rattle.wasm_parser.specs.Seen.{NextGives};
+    ghost use Rattle.wasm_parser.specs.PayloadViews.{NextGives};
 
     ghost can_next = { λ _. Unit {0} };
 
@@ -522,7 +522,7 @@ impl<'a, A: Allocator + Copy> Iterator for ParseAll<'a, A> {
 
     ghost remaining = { λ s. at_most (most_left (state s)) };
 
-    #[tactic(auto, using(crate::proofs::Falls::falls))]
+    #[tactic(auto, using(crate::proofs::PieceCounts::falls))]
     fn next(&mut self) -> Option<Result<Payload<'a, A>, Refusal>> {
         if let Progress::Failed(_) = self.progress {
             return None;

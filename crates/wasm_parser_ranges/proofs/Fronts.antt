@@ -3,7 +3,7 @@ use Rattle.std.proofs.Common.{ℕ, zero, suc, ◌≡◌, ◌≢◌, ◌+◌, ◌
 use Rattle.std.proofs.Math.ListN.{set}
 use Rattle.std.proofs.lemmas.List.{length-set}
 use Rattle.std.specs.Prelude.{min}
-use Rattle.wasm_parser_ranges.specs.Telling.{StandIn}
+use Rattle.wasm_parser_ranges.specs.CallerArrays.{StandIn}
 
 get_set_same : {X : Type 0} (xs : List X) (i : ℕ) (v : X) → i < length xs → slice_get (set xs i v) i ≡ Some v
 get_set_same [] i v l = absurd (omega (arith, l))

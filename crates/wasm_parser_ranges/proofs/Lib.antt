@@ -1,4 +1,4 @@
 mod Pieces
-mod Placed
+mod SectionPlaces
 mod Fronts
-mod Named
+mod NameSections

@@ -3,7 +3,7 @@ use Rattle.std.proofs.Common.{◌≡◌, refl, sym, ap, subst, ◌∙◌, ℕ, L
 use Rattle.wasm_spec.specs.Framing.{Piece, IsFramed}
 use Rattle.wasm_parser.specs.Machine.{State, start, next_of, Run, Given}
 use Rattle.wasm_parser.proofs.Law.{run_framed, framed_run}
-use Rattle.wasm_parser.proofs.Onward.{front, stuck}
+use Rattle.wasm_parser.proofs.RunFronts.{front, stuck}
 use Rattle.wasm_parser_ranges.specs.Ranges.{TellsAll, HasNoFraming}
 
 module _ {X : Type 0} (tell : State → Piece → State → List X) where

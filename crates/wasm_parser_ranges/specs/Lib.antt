@@ -1,3 +1,3 @@
 pub mod Ranges
 pub mod Names
-pub mod Telling
+pub mod CallerArrays

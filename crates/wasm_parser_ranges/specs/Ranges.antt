@@ -5,7 +5,7 @@ use Rattle.wasm_spec.specs.Framing.{Piece, Custom, CodeEntry, IsFramed}
 use Rattle.wasm_parser.specs.Machine.{State, start, next_of}
 use Rattle.wasm_readers_bytes.specs.Reader.{original, position_in}
 use Rattle.wasm_parser.specs.Places.{section_size, reader_end}
-use Rattle.wasm_parser.specs.Seen.{name_of, data_of, data_reader, body_reader}
+use Rattle.wasm_parser.specs.PayloadViews.{name_of, data_of, data_reader, body_reader}
 use Rattle.wasm_parser.specs.declared.payload.Payload.{Payload}
 use Rattle.wasm_parser.specs.declared.payload.Payload.TheVariants as payloads
 use Rattle.wasm_parser_ranges.specs.declared.bodies.Body.{Body}

@@ -2,7 +2,7 @@
 
 ghost use Rattle.std.specs.Prelude.{◌≡◌, ◌++◌, IfOk, IfErr, OnOk};
 ghost use Rattle.wasm_readers_bytes.specs.Reader.{original};
-ghost use Rattle.wasm_parser.specs.Seen.{data_of, data_reader, name_of};
+ghost use Rattle.wasm_parser.specs.PayloadViews.{data_of, data_reader, name_of};
 ghost use Rattle.wasm_parser.specs.Places.{reader_end};
 ghost use Rattle.wasm_parser_ranges.specs.Ranges.{AreCustomSections, Refuses, custom_section, customs_in};
 

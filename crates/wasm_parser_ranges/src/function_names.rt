@@ -4,7 +4,7 @@
 ghost use Rattle.std.specs.Prelude.{◌≡◌, IfOk, IfErr, length};
 ghost use Rattle.std.specs.Option.{option_map};
 ghost use Rattle.wasm_readers_bytes.specs.Reader.{rest};
-ghost use Rattle.wasm_parser.specs.Seen.{seen};
+ghost use Rattle.wasm_parser.specs.PayloadViews.{seen};
 ghost use Rattle.wasm_parser_ranges.specs.Names.{IsName, IsNameSection, name_in_list, name_in_section, names_behind, part_in};
 ghost use Rattle.wasm_parser_ranges.specs.Ranges.{HasNoFraming};
 

@@ -2,7 +2,7 @@
 
 ghost use Rattle.std.specs.Prelude.{◌≡◌, length};
 ghost use Rattle.wasm_parser_ranges.specs.Ranges.{AreBodies, AreCustomSections};
-ghost use Rattle.wasm_parser_ranges.specs.Telling.{StandIn, TellsFound, TellsName};
+ghost use Rattle.wasm_parser_ranges.specs.CallerArrays.{StandIn, TellsFound, TellsName};
 
 use crate::bodies::{Body, find_bodies};
 use crate::custom_sections::{CustomSection, find_custom_sections};

@@ -6,7 +6,7 @@ use Rattle.wasm_readers_bytes.specs.WasmSpec.Values.{byte_at}
 use Rattle.wasm_readers_bytes.specs.WasmSpec.BinaryTypes.{flags_at, table_at}
 use Rattle.wasm_readers_bytes.specs.WasmSpec.BinarySections.{TableEntry, table_from, table_entry_at}
 use Rattle.wasm_readers_types.specs.WasmReadersValues.declared.indices.UnpackedIndex.{UnpackedIndex}
-use Rattle.wasm_readers.specs.Written.{written}
+use Rattle.wasm_readers.specs.WrittenIndices.{written}
 use Rattle.wasm_readers.specs.Tables.{ExpressionReading, Head, head_with, table_head_from, table_head_at, table_behind, TableHeadsBeginTables}
 
 module _ (expression_at : ExpressionReading) where

@@ -5,7 +5,7 @@ pub use Rattle.wasm_readers_bytes.specs as WasmReadersBytes
 pub mod Refusals
 pub mod Sections
 pub mod SectionsSeen
-pub mod Written
+pub mod WrittenIndices
 pub mod Items
 pub mod Limits
 pub mod Tables

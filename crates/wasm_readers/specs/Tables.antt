@@ -8,7 +8,7 @@ use Rattle.wasm_readers_bytes.specs.WasmSpec.BinaryTypes.{flags_at, table_at}
 use Rattle.wasm_readers_bytes.specs.WasmSpec.BinarySections.{TableEntry, table_entry_at}
 use Rattle.wasm_readers_types.specs.SeenExterns.{table_of}
 use Rattle.wasm_readers_types.specs.WasmReadersValues.declared.indices.UnpackedIndex.{UnpackedIndex}
-use Rattle.wasm_readers.specs.Written.{written}
+use Rattle.wasm_readers.specs.WrittenIndices.{written}
 use Rattle.wasm_readers.specs.declared.items.TableHead.{TableHead}
 
 -- how expressions are read: the bytes of one, and those behind it

@@ -5,7 +5,7 @@ ghost use Rattle.wasm_readers_bytes.specs.WasmSpec.BinaryTypes.{flags_at, limits
 ghost use Rattle.wasm_readers_bytes.specs.WasmSpec.BinaryModules.{import_at, export_at, extern_at};
 ghost use Rattle.wasm_readers_bytes.specs.Reader.{input, SameInput, position_in, rest, RefusedFrom, place_of_next, byte_fault};
 ghost use Rattle.wasm_readers_bytes.specs.WasmReadersErrors.Refusals.{plain};
-ghost use Rattle.wasm_readers.specs.Written.{written};
+ghost use Rattle.wasm_readers.specs.WrittenIndices.{written};
 ghost use Rattle.wasm_readers.specs.Limits.{limits_of};
 ghost use Rattle.wasm_readers.specs.Tables.{head_of, table_head_at};
 ghost use Rattle.wasm_readers_types.specs.SeenExterns.{table_of, memory_of, global_of, extern_of, kind_of};

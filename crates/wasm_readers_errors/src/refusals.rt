@@ -1,7 +1,7 @@
 //! Rules that a test or a proposal decides, and what is said where one is broken.
 
 ghost use Rattle.std.specs.Prelude.{◌≡◌, ◌||◌, not, true, is_ok, IfErr};
-ghost use Rattle.wasm_readers_features.specs.On.{has_flag};
+ghost use Rattle.wasm_readers_features.specs.ProposalFlags.{has_flag};
 ghost use Rattle.wasm_readers_errors.specs.Refusals.{refused, plain, unless, lack_if};
 
 use crate::error::{Fault, Refusal};

@@ -2,7 +2,7 @@
 //! each flag; and `STANDARD`, the set that is the default.
 
 ghost use Rattle.std.specs.Prelude.{⊤, ◌≡◌, [], ◌∷◌, codes};
-ghost use Rattle.wasm_readers_features.specs.On.{mutable_global_on, reference_types_on, multi_value_on, bulk_memory_on, simd_on, threads_on, shared_everything_threads_on, floats_on, multi_memory_on, exceptions_on, memory64_on, extended_const_on, function_references_on, gc_on, gc_types_on, custom_page_sizes_on, custom_descriptors_on, stack_switching_on, component_model_on, vector_operators_on, atomic_operators_on, legacy_exceptions_on, crate_limits_on, wide_arithmetic_on, memory_control_on, descriptor_operators_on, shared_atomic_operators_on, stack_switching_operators_on};
+ghost use Rattle.wasm_readers_features.specs.ProposalFlags.{mutable_global_on, reference_types_on, multi_value_on, bulk_memory_on, simd_on, threads_on, shared_everything_threads_on, floats_on, multi_memory_on, exceptions_on, memory64_on, extended_const_on, function_references_on, gc_on, gc_types_on, custom_page_sizes_on, custom_descriptors_on, stack_switching_on, component_model_on, vector_operators_on, atomic_operators_on, legacy_exceptions_on, crate_limits_on, wide_arithmetic_on, memory_control_on, descriptor_operators_on, shared_atomic_operators_on, stack_switching_operators_on};
 
 use bitflags::{Flag, Flags, bitflag_items};
 

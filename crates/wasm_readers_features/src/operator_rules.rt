@@ -1,7 +1,7 @@
 //! Rules of operators (Core Specification 3.0, Validation, Instructions), and their texts.
 
 ghost use Rattle.std.specs.Prelude.{◌≡◌};
-ghost use Rattle.wasm_readers_features.specs.Lifting.{lifting, needed_by};
+ghost use Rattle.wasm_readers_features.specs.LiftingProposals.{lifting, needed_by};
 
 use crate::atomic_rules::{write_atomic_global, write_atomic_type};
 use crate::features::WasmFeatures;

@@ -1,7 +1,7 @@
 //! Rules of types: of recursion groups, sub, composite and value types, and descriptor clauses.
 
 ghost use Rattle.std.specs.Prelude.{◌≡◌};
-ghost use Rattle.wasm_readers_features.specs.Lifting.{lifting_reference};
+ghost use Rattle.wasm_readers_features.specs.LiftingProposals.{lifting_reference};
 
 use crate::features::WasmFeatures;
 

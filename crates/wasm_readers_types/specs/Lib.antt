@@ -6,4 +6,4 @@ pub mod TypesFaithful
 pub mod SeenExterns
 pub mod ExternsExact
 pub mod Entities
-pub mod SeenApart
+pub mod SyntaxEquality

@@ -1,2 +1,2 @@
 pub use Rattle.wasm_spec.proofs as WasmSpec
-pub mod Packing
+pub mod NumberBytes

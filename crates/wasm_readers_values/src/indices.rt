@@ -168,7 +168,7 @@ impl PackedIndex {
 
     /// The index in this form with this number.
     #[inline(always)]
-    #[tactic(auto, using(crate::proofs::Packing::packed_numbers))]
+    #[tactic(auto, using(crate::proofs::NumberBytes::packed_numbers))]
     fn of(form: IndexForm, number: u32) -> PackedIndex
         requires { number_of (indexed form number) < MAX_IDS }
         ensures { index_of result ≡ indexed form number }

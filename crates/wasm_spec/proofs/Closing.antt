@@ -7,7 +7,7 @@ use Rattle.wasm_spec.specs.Features.{Features, canonical}
 use Rattle.wasm_spec.specs.Trees.{DefType, close, members, start_of}
 use Rattle.wasm_spec.specs.Closing.{are_closable, is_closable, resolve, start_unless, closed, positions, with_group, with_groups, type_space}
 use Rattle.wasm_spec.specs.TypeLaws.{MembersOfClosed, StartOfClosed, EqualTreesEqualGroups, AppendedGroup, FrontOfTypeSpace, EarlierTypesStay, SingleRecIsPlain, DifferentGroupsDifferentTypes, EachWrittenGroupIsItsOwn}
-use Rattle.wasm_spec.proofs.Numbering.{members-close, start_of-close}
+use Rattle.wasm_spec.proofs.ReferenceNumbers.{members-close, start_of-close}
 
 pub members_of_closed : MembersOfClosed
 members_of_closed = members-close

@@ -6,7 +6,7 @@ use Rattle.std.proofs.lemmas.Option.{none-some}
 use Rattle.wasm_spec.specs.Syntax.{Sub}
 use Rattle.wasm_spec.specs.Features.{Features}
 use Rattle.wasm_spec.specs.Limits.{most_ancestors}
-use Rattle.wasm_spec.specs.Declared.{ancestor_at, IsDepth, Links}
+use Rattle.wasm_spec.specs.SupertypeOrder.{ancestor_at, IsDepth, Links}
 use Rattle.wasm_spec.specs.GroupRules.{IsValidType}
 use Rattle.wasm_spec.specs.TypeLaws.{DepthsAreSmall}
 use Rattle.wasm_spec.proofs.Matching.{ancestor_at-add}

@@ -8,7 +8,7 @@ use Rattle.std.proofs.lemmas.List.Elements.{recursion_from_All, All-contains}
 use Rattle.wasm_spec.specs.Syntax.{AbstractHeap, any_heap, eq_heap, i31_heap, struct_heap, array_heap, none_heap, func_heap, nofunc_heap, extern_heap, noextern_heap, exn_heap, noexn_heap, cont_heap, nocont_heap, Heap, abstract_heap, concrete, exact, Ref, Val, i32, i64, f32, f64, v128, reference, Storage, i8, i16, unpacked, Field, Comp, func, array, struct, cont, Sub}
 use Rattle.wasm_spec.specs.References.{refs_option, refs_heap, refs_val, refs_storage, refs_field, refs_comp, refs_sub}
 use Rattle.wasm_spec.specs.Features.{Features}
-use Rattle.wasm_spec.specs.Declared.{supertype, supertype_of, ancestor_at, IsAncestor}
+use Rattle.wasm_spec.specs.SupertypeOrder.{supertype, supertype_of, ancestor_at, IsAncestor}
 use Rattle.wasm_spec.specs.Matching.{AbstractRule, none-i31, none-struct, none-array, i31-eq, struct-eq, array-eq, eq-any, nofunc-func, noextern-extern, noexn-exn, nocont-cont, MatchesAbstract, itself, further, kind_of, bottom_of, MatchesKind, IsAboveBottom, MatchesHeap, MatchesRef, MatchesVal, MatchesStorage, MatchesField, MatchesFields, MatchesComp, MatchesSub}
 use Rattle.wasm_spec.specs.GroupRules.{OfSupertype, IsValidType}
 use Rattle.wasm_spec.specs.TypeLaws.{AreAccepted, AcceptedTypesMatchAncestors, IsLike, KeepsKind, EndsAbove, MatchingIsReflexive, MatchingIsTransitive, MatchingIsAntisymmetric}

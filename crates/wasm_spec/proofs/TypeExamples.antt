@@ -6,7 +6,7 @@ use Rattle.std.specs.Option.{option_and_then}
 use Rattle.std.proofs.lemmas.List.Elements.{All-from_recursion}
 use Rattle.wasm_spec.specs.Trees.{RecTree, DefType, close, members, declared}
 use Rattle.wasm_spec.specs.Closing.{resolve}
-use Rattle.wasm_spec.specs.Declared.{supertype, ancestor_at}
+use Rattle.wasm_spec.specs.SupertypeOrder.{supertype, ancestor_at}
 use Rattle.wasm_spec.specs.GroupRules.{TypeRules, IsValidType}
 use Rattle.wasm_spec.specs.Matching.{MatchesAbstract, itself, further, eq-any}
 use Rattle.wasm_spec.specs.TypeExamples.{FinalStructStillMatches, ExtendedStructHasOneAncestor, features, described_pair, DescribedPairIsValid, MutualStructsAreOneTree, MutualStructsAreTypes, NoRecWithoutGc, NoIndexPastTheEnd, ExtendsOpenStruct, FinalStructIsNotExtended, ImmutableFieldMatches, MutableFieldDoesNotMatch, ParametersMatchBackwards, ParametersDoNotMatchForwards}

@@ -8,7 +8,7 @@ use Rattle.wasm_spec.specs.Syntax.{Storage, unpacked, Field, Comp, func, array, 
 use Rattle.wasm_spec.specs.Features.{Features}
 use Rattle.wasm_spec.specs.Trees.{RecTree, DefType, members, declared}
 use Rattle.wasm_spec.specs.Closing.{type_space}
-use Rattle.wasm_spec.specs.Declared.{supertype, supertype_of, descriptor_of, described_by, ancestor_at}
+use Rattle.wasm_spec.specs.SupertypeOrder.{supertype, supertype_of, descriptor_of, described_by, ancestor_at}
 use Rattle.wasm_spec.specs.ValueTypes.{allows_storage}
 use Rattle.wasm_spec.specs.Limits.{most_ancestors}
 use Rattle.wasm_spec.specs.CrateLimits.{is_limited}

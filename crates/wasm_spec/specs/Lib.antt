@@ -9,7 +9,7 @@ pub mod References
 pub mod Trees
 pub mod Features
 pub mod Closing
-pub mod Declared
+pub mod SupertypeOrder
 pub mod ValueTypes
 pub mod Limits
 pub mod CrateLimits

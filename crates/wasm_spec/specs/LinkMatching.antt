@@ -3,7 +3,7 @@
 -- functions of the proposals. In each rule the first is given and the second is asked for.
 use Rattle.std.specs.Prelude.{ℕ, ◌≡◌, ◌≤◌, Option, None, Some, IsTrue, ⊤}
 use Rattle.wasm_spec.specs.Syntax.{Sub, Table, Memory, Global, Extern, func_extern, func_exact_extern, table_extern, memory_extern, global_extern, tag_extern}
-use Rattle.wasm_spec.specs.Declared.{IsAncestor}
+use Rattle.wasm_spec.specs.SupertypeOrder.{IsAncestor}
 use Rattle.wasm_spec.specs.Matching.{MatchesRef, MatchesVal}
 
 -- where a maximum is asked for, there is one, and it is not greater

@@ -4,7 +4,7 @@ use Rattle.std.specs.Prelude.{◌≡◌, ℕ, Bool, true, false, not, ◌&&◌, 
 use Rattle.std.specs.Bool.{Decides}
 use Rattle.std.specs.List.{list_any}
 use Rattle.wasm_spec.specs.Syntax.{AbstractHeap, any_heap, eq_heap, i31_heap, struct_heap, array_heap, none_heap, func_heap, nofunc_heap, extern_heap, noextern_heap, exn_heap, noexn_heap, cont_heap, nocont_heap, Heap, abstract_heap, concrete, exact, Ref, Val, i32, i64, f32, f64, v128, reference, Sub}
-use Rattle.wasm_spec.specs.Declared.{IsAncestor}
+use Rattle.wasm_spec.specs.SupertypeOrder.{IsAncestor}
 use Rattle.wasm_spec.specs.ValueTypes.{implies}
 use Rattle.wasm_spec.specs.Matching.{kind_of, bottom_of}
 

@@ -4,7 +4,7 @@ use Rattle.wasm_spec.specs.Syntax.{any_heap, eq_heap, Heap, abstract_heap, concr
 use Rattle.wasm_spec.specs.Features.{Features}
 use Rattle.wasm_spec.specs.Closing.{type_space}
 use Rattle.wasm_spec.specs.Matching.{MatchesField, MatchesComp, MatchesSub}
-use Rattle.wasm_spec.specs.Declared.{IsDepth}
+use Rattle.wasm_spec.specs.SupertypeOrder.{IsDepth}
 use Rattle.wasm_spec.specs.GroupRules.{TypeRules, OfSupertype, IsValidTypeSection}
 
 -- every proposal, or none, and no limits of `crate_limits`

@@ -10,7 +10,7 @@ use Rattle.wasm_spec.specs.Limits.{most_ancestors}
 use Rattle.wasm_spec.specs.Trees.{RecTree, TypeUse, DefType, close, members, start_of, declared}
 use Rattle.wasm_spec.specs.Closing.{closed, resolve, with_group, type_space}
 use Rattle.wasm_spec.specs.TypeLists.{ListedUse, by_id, by_position, listed_from, listed_tree, with_listed, types_of}
-use Rattle.wasm_spec.specs.Declared.{IsAncestor, IsDepth, Links, ancestor_at}
+use Rattle.wasm_spec.specs.SupertypeOrder.{IsAncestor, IsDepth, Links, ancestor_at}
 use Rattle.wasm_spec.specs.Matching.{MatchesAbstract, kind_of, MatchesHeap, MatchesRef, MatchesVal, MatchesComp, MatchesSub}
 use Rattle.wasm_spec.specs.MatchingTests.{World, IsWorld, matches_abstract, matches_heap, matches_ref, matches_val}
 use Rattle.wasm_spec.specs.GroupRules.{IsValidType, IsValidTypeSection}

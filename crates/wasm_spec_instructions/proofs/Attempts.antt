@@ -1,6 +1,6 @@
 -- Words on attempts, and lists with a last item.
 use Rattle.std.proofs.Common.{◌≡◌, refl, ap, ◌∙◌, Bool, true, false, ◌&&◌, List, [], ◌∷◌, ◌++◌, Option, Some, None, is_some}
-use Rattle.wasm_operator_steps.specs.WasmSpecRules.Attempts.{◌>>=◌, guard, passes, last_of, front_of}
+use Rattle.wasm_spec_steps.specs.WasmSpecRules.Attempts.{◌>>=◌, guard, passes, last_of, front_of}
 
 pub no : {X : Type 0} → false ≡ true → X
 no e = cc

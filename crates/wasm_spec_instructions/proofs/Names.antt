@@ -1,23 +1,23 @@
 -- The rules of shapes, read for single instructions.
 use Rattle.std.proofs.Common.{◌≡◌, refl, sym, ap, subst, ◌∙◌, ℕ, true, false, List, [], ◌∷◌, ◌++◌, Option, Some, None, option_map, append-nil, slice_get}
-use Rattle.wasm_operator_steps.specs.WasmSpecRules.WasmSpec.Syntax.{Val, i32}
-use Rattle.wasm_operator_steps.specs.WasmSpecRules.WasmSpec.MatchingTests.{World}
-use Rattle.wasm_operator_steps.specs.WasmSpecRules.Attempts.{passes}
-use Rattle.wasm_operator_steps.specs.WasmSpecRules.Signatures.{Signature}
+use Rattle.wasm_spec_steps.specs.WasmSpecRules.WasmSpec.Syntax.{Val, i32}
+use Rattle.wasm_spec_steps.specs.WasmSpecRules.WasmSpec.MatchingTests.{World}
+use Rattle.wasm_spec_steps.specs.WasmSpecRules.Attempts.{passes}
+use Rattle.wasm_spec_steps.specs.WasmSpecRules.Signatures.{Signature}
 use Rattle.wasm_operators.specs.Control as control
 use Rattle.wasm_operators.specs.Instructions.{control}
-use Rattle.wasm_operator_steps.specs.Matching.{matches_vals}
-use Rattle.wasm_operator_steps.specs.Bodies.{Local, Surroundings}
-use Rattle.wasm_operator_steps.specs.Actions.{label, returned, local, params, results, of_function, joined, has, reference_types, function_references, each_matches, reaches_function, local_is_set}
-use Rattle.wasm_operator_steps.specs.Shapes.{Shape, plain, ending, dropping, choosing, testing_null, asserting_non_null, branching_on_null, branching_on_non_null, branching_by_table, setting, giving_back, nothing, one, rethrowing, legacy_checks}
-use Rattle.wasm_operator_steps.specs.Meanings.{signature_at}
-use Rattle.wasm_operator_steps.specs.Meanings as meaning
+use Rattle.wasm_spec_steps.specs.Matching.{matches_vals}
+use Rattle.wasm_spec_steps.specs.Bodies.{Local, Surroundings}
+use Rattle.wasm_spec_steps.specs.Actions.{label, returned, local, params, results, of_function, joined, has, reference_types, function_references, each_matches, reaches_function, local_is_set}
+use Rattle.wasm_spec_steps.specs.Shapes.{Shape, plain, ending, dropping, choosing, testing_null, asserting_non_null, branching_on_null, branching_on_non_null, branching_by_table, setting, giving_back, nothing, one, rethrowing, legacy_checks}
+use Rattle.wasm_spec_steps.specs.Meanings.{signature_at}
+use Rattle.wasm_spec_steps.specs.Meanings as meaning
 use Rattle.wasm_spec_instructions.specs.ValueTypes.{ValueType, val, vals, reference_at, reference_type}
 use Rattle.wasm_spec_instructions.specs.Scopes.{Scope}
 use Rattle.wasm_spec_instructions.specs.Rules.{Rule, plain_rule, ending_rule, dropping_rule, choosing_rule, testing_null_rule, asserting_non_null_rule, branching_on_null_rule, branching_on_non_null_rule, branching_by_table_rule, setting_rule, giving_back_rule, rethrowing_rule}
 use Rattle.wasm_spec_instructions.specs.Names.{Goes, Branches, BranchesIf, BranchesByTable, Returns, Rethrows, Gets, Drops, Selects, Sets, Tees, TestsNull, AssertsNonNull, BranchesOnNull, BranchesOnNonNull, CallsInPlace, InstructionsHaveTheirRules}
 use Rattle.wasm_spec_instructions.proofs.Attempts.{the_same, absent, bind-at, passes-gives}
-use Rattle.wasm_spec_instructions.proofs.Fits.{vals-append}
+use Rattle.wasm_spec_instructions.proofs.OperandFits.{vals-append}
 
 module _ {R : Type 0} (W : World R) (B : Surroundings R) (C : Scope R) where
   stops : (ts us : List (ValueType R)) → Goes W B C (control control.unreachable) ts us

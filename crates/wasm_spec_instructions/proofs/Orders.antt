@@ -5,7 +5,7 @@ use Rattle.std.specs.Prelude.{slice_index_or}
 use Rattle.std.specs.List.{All}
 use Rattle.wasm_spec.specs.Syntax.{Heap, abstract_heap, concrete, exact, Sub}
 use Rattle.wasm_spec.specs.References.{refs_heap}
-use Rattle.wasm_spec.specs.Declared.{IsAncestor, supertype, ancestor_at}
+use Rattle.wasm_spec.specs.SupertypeOrder.{IsAncestor, supertype, ancestor_at}
 use Rattle.wasm_spec.specs.Matching.{MatchesHeap, shared_flag, is_shared_heap}
 use Rattle.wasm_spec.specs.MatchingTests.{World, IsWorld}
 use Rattle.wasm_spec.specs.TypeLaws.{IsLike, KeepsKind}

@@ -1,16 +1,16 @@
 -- References that are taken, chosen, compared and converted, and the types that they stand for.
 use Rattle.std.proofs.Common.{◌≡◌, refl, sym, ap, subst, ◌∙◌, Bool, true, false, ◌&&◌, List, ◌∷◌, Option, Some, None}
-use Rattle.wasm_operator_steps.specs.WasmSpecRules.WasmSpec.Syntax.{AbstractHeap, Heap, abstract_heap, Ref, Val, i32, i64, f32, f64, v128, reference}
-use Rattle.wasm_operator_steps.specs.WasmSpecRules.WasmSpec.ValueTypes.{implies}
-use Rattle.wasm_operator_steps.specs.WasmSpecRules.WasmSpec.Matching.{is_shared_heap}
-use Rattle.wasm_operator_steps.specs.WasmSpecRules.WasmSpec.MatchingTests.{World, same_flag, matches_heap, matches_val}
-use Rattle.wasm_operator_steps.specs.Bodies.{Surroundings}
-use Rattle.wasm_operator_steps.specs.Machine.{Operand, bottom, bottom_reference, open_reference, known, as_reference, non_null, same_number, chosen}
-use Rattle.wasm_operator_steps.specs.Meanings.{is_below_either, agree, converted}
+use Rattle.wasm_spec_steps.specs.WasmSpecRules.WasmSpec.Syntax.{AbstractHeap, Heap, abstract_heap, Ref, Val, i32, i64, f32, f64, v128, reference}
+use Rattle.wasm_spec_steps.specs.WasmSpecRules.WasmSpec.ValueTypes.{implies}
+use Rattle.wasm_spec_steps.specs.WasmSpecRules.WasmSpec.Matching.{is_shared_heap}
+use Rattle.wasm_spec_steps.specs.WasmSpecRules.WasmSpec.MatchingTests.{World, same_flag, matches_heap, matches_val}
+use Rattle.wasm_spec_steps.specs.Bodies.{Surroundings}
+use Rattle.wasm_spec_steps.specs.Machine.{Operand, bottom, bottom_reference, open_reference, known, as_reference, non_null, same_number, chosen}
+use Rattle.wasm_spec_steps.specs.Meanings.{is_below_either, agree, converted}
 use Rattle.wasm_spec_instructions.specs.ValueTypes.{ValueType, bot, reference_to_bot, val, reference_at, reference_type, matches_type, IsInOrder}
 use Rattle.wasm_spec_instructions.proofs.Attempts.{no, the_same, absent, bind-gives, bind-at, guard-gives, guard-at, and-both}
-use Rattle.wasm_spec_instructions.proofs.Within.{Stack, lpop, referring, referred, lpop_reference}
-use Rattle.wasm_spec_instructions.proofs.Fits.{implies-refl, implies-true, fits_type, FitsStack, pop_any-sound, pop_any-complete, val-itself, fits-through}
+use Rattle.wasm_spec_instructions.proofs.FrameMachine.{Stack, lpop, referring, referred, lpop_reference}
+use Rattle.wasm_spec_instructions.proofs.OperandFits.{implies-refl, implies-true, fits_type, FitsStack, pop_any-sound, pop_any-complete, val-itself, fits-through}
 
 same-itself : (s : Bool) → same_flag s s ≡ true
 same-itself true = refl

@@ -1,21 +1,21 @@
 -- The machine on the flat list is the machine on the structured code that it is written for.
 use Rattle.std.proofs.Common.{◌≡◌, refl, sym, ap, ◌∙◌, ℕ, Bool, true, false, List, [], ◌∷◌, ◌++◌, Option, Some, None, is_some, ◌&&◌, slice_get, append_assoc}
-use Rattle.wasm_operator_steps.specs.WasmSpecRules.WasmSpec.MatchingTests.{World}
-use Rattle.wasm_operator_steps.specs.WasmSpecRules.WasmSpec.Syntax.{Val}
-use Rattle.wasm_operator_steps.specs.WasmSpecRules.Attempts.{◌>>=◌, guard}
+use Rattle.wasm_spec_steps.specs.WasmSpecRules.WasmSpec.MatchingTests.{World}
+use Rattle.wasm_spec_steps.specs.WasmSpecRules.WasmSpec.Syntax.{Val}
+use Rattle.wasm_spec_steps.specs.WasmSpecRules.Attempts.{◌>>=◌, guard}
 use Rattle.wasm_operators.specs.Control.{Block}
 use Rattle.wasm_operators.specs.Instructions.{Instruction}
-use Rattle.wasm_operator_steps.specs.Bodies.{Surroundings}
-use Rattle.wasm_operator_steps.specs.Machine.{Kind, if_kind, else_kind, legacy_try_kind, legacy_catch_kind, is_try, may_catch, State}
-use Rattle.wasm_operator_steps.specs.Actions.{OperandTypes, Check, Action, need, take, give, take_reference, take_comparable, make_non_null, stop, leave, take_below, convert, describe, enter, turn_to_catch, find_outside, find_caught, branch_on_null}
-use Rattle.wasm_operator_steps.specs.Shapes.{Shape, plain, ending, opening, closing, turning, dropping, choosing, never, testing_null, asserting_non_null, branching_on_null, branching_on_non_null, branching_by_table, setting, giving_back, measuring, comparing, converting, describing, shape_of, catching, delegating, rethrowing, legacy_checks}
-use Rattle.wasm_operator_steps.specs.Meanings.{label_by, act, run}
-use Rattle.wasm_operator_steps.specs.Steps.{actions_of, checked, step_in, steps_in}
+use Rattle.wasm_spec_steps.specs.Bodies.{Surroundings}
+use Rattle.wasm_spec_steps.specs.Machine.{Kind, if_kind, else_kind, legacy_try_kind, legacy_catch_kind, is_try, may_catch, State}
+use Rattle.wasm_spec_steps.specs.Actions.{OperandTypes, Check, Action, need, take, give, take_reference, take_comparable, make_non_null, stop, leave, take_below, convert, describe, enter, turn_to_catch, find_outside, find_caught, branch_on_null}
+use Rattle.wasm_spec_steps.specs.Shapes.{Shape, plain, ending, opening, closing, turning, dropping, choosing, never, testing_null, asserting_non_null, branching_on_null, branching_on_non_null, branching_by_table, setting, giving_back, measuring, comparing, converting, describing, shape_of, catching, delegating, rethrowing, legacy_checks}
+use Rattle.wasm_spec_steps.specs.Meanings.{label_by, act, run}
+use Rattle.wasm_spec_steps.specs.Steps.{actions_of, checked, step_in, steps_in}
 use Rattle.wasm_spec_instructions.specs.Scopes.{types_in}
 use Rattle.wasm_spec_instructions.specs.Code.{Opening, a_block, a_loop, an_if, a_try, a_try_table, Handler, a_catch, a_catch_all, Code, done, simply, enclosing, choosing_between, handling, delegating_to, Handlers, last_handler, catch_before, written, handler_written, delegate_, else_, end_, flatten, flatten_handlers, is_simple, IsProper, AreProper, kind_of, block_of, checks_of, condition_of, handler_kind, handler_checks, handler_operands}
 use Rattle.wasm_spec_instructions.proofs.Attempts.{no, bind-bind, bind-like, bind-gives}
-use Rattle.wasm_spec_instructions.proofs.Within.{Stack, Entered, starting, fresh, lend, lact, lrun, lenter_block, lenter, lshut, deeper, lcatch, ldelegate, check, handle}
-use Rattle.wasm_spec_instructions.proofs.Bridge.{chain, Place, at, scope, AllWithin, act-at, checked-at, run-at, opened_over, opened, IsSigned, inside, enter-at, lenter-signed, leave-at, turn-at, over, caught_by, catch-any, catch-at}
+use Rattle.wasm_spec_instructions.proofs.FrameMachine.{Stack, Entered, starting, fresh, lend, lact, lrun, lenter_block, lenter, lshut, deeper, lcatch, ldelegate, check, handle}
+use Rattle.wasm_spec_instructions.proofs.InnermostFrames.{chain, Place, at, scope, AllWithin, act-at, checked-at, run-at, opened_over, opened, IsSigned, inside, enter-at, lenter-signed, leave-at, turn-at, over, caught_by, catch-any, catch-at}
 
 opening-shape : (o : Opening) → shape_of (written o) ≡ opening (checks_of o) (condition_of o) (kind_of o) (block_of o)
 opening-shape (a_block b) = refl

@@ -1,15 +1,15 @@
 -- Operands whose shared flag isn't open, each of which has a least type: so the labels of a table have types in common.
 use Rattle.std.proofs.Common.{◌≡◌, refl, sym, ap, subst, ◌∙◌, ℕ, zero, suc, ◌+◌, Bool, true, false, ◌&&◌, ◌==◌, List, [], ◌∷◌, ◌++◌, length, Some, is_some, slice_get, arith}
 use Rattle.std.proofs.lemmas.Bool.Decides.{Decides-eqb}
-use Rattle.wasm_operator_steps.specs.WasmSpecRules.WasmSpec.Syntax.{Val, abstract_heap, i32, i64, f32, f64, v128, reference}
-use Rattle.wasm_operator_steps.specs.WasmSpecRules.WasmSpec.MatchingTests.{World, matches_heap}
-use Rattle.wasm_operator_steps.specs.WasmSpecRules.Attempts.{passes}
-use Rattle.wasm_operator_steps.specs.Machine.{Operand, bottom, bottom_reference, open_reference, known}
+use Rattle.wasm_spec_steps.specs.WasmSpecRules.WasmSpec.Syntax.{Val, abstract_heap, i32, i64, f32, f64, v128, reference}
+use Rattle.wasm_spec_steps.specs.WasmSpecRules.WasmSpec.MatchingTests.{World, matches_heap}
+use Rattle.wasm_spec_steps.specs.WasmSpecRules.Attempts.{passes}
+use Rattle.wasm_spec_steps.specs.Machine.{Operand, bottom, bottom_reference, open_reference, known}
 use Rattle.wasm_spec_instructions.specs.ValueTypes.{ValueType, bot, reference_to_bot, val, reference_at, vals, IsUnshared, AreUnshared, matches_type, Match, none, each, IsInOrder}
 use Rattle.wasm_spec_instructions.specs.Rules.{MatchLabels}
 use Rattle.wasm_spec_instructions.proofs.Attempts.{no, absent, the_same, and-both, passes-gives, some-gives}
-use Rattle.wasm_spec_instructions.proofs.Within.{Stack, lpops, lfit}
-use Rattle.wasm_spec_instructions.proofs.Fits.{onto, rev, onto-behind, rev-rev, fits_type, Fits, FitsStack, match-onto, some_types, val-itself, pops-sound}
+use Rattle.wasm_spec_instructions.proofs.FrameMachine.{Stack, lpops, lfit}
+use Rattle.wasm_spec_instructions.proofs.OperandFits.{onto, rev, onto-behind, rev-rev, fits_type, Fits, FitsStack, match-onto, some_types, val-itself, pops-sound}
 use Rattle.wasm_spec_instructions.proofs.References.{bottom-sound}
 
 abbrev pub is_shut : {R : Type 0} → Operand R → Bool

@@ -1,18 +1,18 @@
 -- Code that the machine accepts within a frame has a typing.
 use Rattle.std.proofs.Common.{◌≡◌, refl, sym, ap, subst, ◌∙◌, ℕ, Bool, true, false, not, ◌&&◌, List, [], ◌∷◌, ◌++◌, Option, Some, None, option_map, is_some, slice_get, append-nil}
-use Rattle.wasm_operator_steps.specs.WasmSpecRules.WasmSpec.Syntax.{Heap, abstract_heap, concrete, exact, Val, i32, i64, f32, f64, v128, reference, Comp, Sub}
-use Rattle.wasm_operator_steps.specs.WasmSpecRules.WasmSpec.ValueTypes.{implies, abstract_needs, is_without_gc_types, allows_heap, allows_val}
-use Rattle.wasm_operator_steps.specs.WasmSpecRules.WasmSpec.Matching.{is_shared_heap}
-use Rattle.wasm_operator_steps.specs.WasmSpecRules.WasmSpec.MatchingTests.{World}
-use Rattle.wasm_operator_steps.specs.WasmSpecRules.Attempts.{◌>>=◌, guard}
-use Rattle.wasm_operator_steps.specs.WasmSpecRules.Signatures.{Signature, signature_of, resolve_heap, resolve_val}
+use Rattle.wasm_spec_steps.specs.WasmSpecRules.WasmSpec.Syntax.{Heap, abstract_heap, concrete, exact, Val, i32, i64, f32, f64, v128, reference, Comp, Sub}
+use Rattle.wasm_spec_steps.specs.WasmSpecRules.WasmSpec.ValueTypes.{implies, abstract_needs, is_without_gc_types, allows_heap, allows_val}
+use Rattle.wasm_spec_steps.specs.WasmSpecRules.WasmSpec.Matching.{is_shared_heap}
+use Rattle.wasm_spec_steps.specs.WasmSpecRules.WasmSpec.MatchingTests.{World}
+use Rattle.wasm_spec_steps.specs.WasmSpecRules.Attempts.{◌>>=◌, guard}
+use Rattle.wasm_spec_steps.specs.WasmSpecRules.Signatures.{Signature, signature_of, resolve_heap, resolve_val}
 use Rattle.wasm_operators.specs.Control.{Block, empty_block, value_block, func_block}
-use Rattle.wasm_operator_steps.specs.Bodies.{Surroundings}
-use Rattle.wasm_operator_steps.specs.Machine.{Kind, block_kind, loop_kind, if_kind, else_kind, try_table_kind, legacy_try_kind, legacy_catch_kind, legacy_catch_all_kind, has_caught}
-use Rattle.wasm_operator_steps.specs.Actions.{Check, take}
-use Rattle.wasm_operator_steps.specs.Shapes.{Shape, branching_by_table, block_checks, catch_checks, legacy_checks, shape_of}
-use Rattle.wasm_operator_steps.specs.Meanings.{sub_at, comp_at, type_signature, label_by, resolve_block, block_signature, may_end}
-use Rattle.wasm_operator_steps.specs.Steps.{actions_of, checked}
+use Rattle.wasm_spec_steps.specs.Bodies.{Surroundings}
+use Rattle.wasm_spec_steps.specs.Machine.{Kind, block_kind, loop_kind, if_kind, else_kind, try_table_kind, legacy_try_kind, legacy_catch_kind, legacy_catch_all_kind, has_caught}
+use Rattle.wasm_spec_steps.specs.Actions.{Check, take}
+use Rattle.wasm_spec_steps.specs.Shapes.{Shape, branching_by_table, block_checks, catch_checks, legacy_checks, shape_of}
+use Rattle.wasm_spec_steps.specs.Meanings.{sub_at, comp_at, type_signature, label_by, resolve_block, block_signature, may_end}
+use Rattle.wasm_spec_steps.specs.Steps.{actions_of, checked}
 use Rattle.wasm_spec_instructions.specs.Code.{Opening, a_block, a_loop, an_if, a_try, a_try_table, Handler, a_catch, a_catch_all, Code, done, simply, enclosing, choosing_between, handling, delegating_to, Handlers, last_handler, catch_before, and_then, is_simple, kind_of, block_of, checks_of, condition_of, handler_kind, handler_checks, handler_operands, is_one}
 use Rattle.wasm_spec_instructions.specs.ValueTypes.{ValueType, val, vals, Match, IsInOrder, IsUnshared, AreUnshared}
 use Rattle.wasm_spec_instructions.specs.Scopes.{Scope, labelled, inside, in_handler, behind, is_set, types_in, AllHold}
@@ -20,13 +20,13 @@ use Rattle.wasm_spec_instructions.specs.Rules.{sets_of}
 use Rattle.wasm_spec_instructions.specs.Sequences.{Opens, Catches, Typed, empty_rule, instruction_rule, block_rule, loop_rule, if_rule, if_else_rule, try_table_rule, try_rule, handling_rule, delegating_rule, sequence_rule, frame_rule, subsumption_rule, Handle, last_rule, before_rule}
 use Rattle.wasm_spec_instructions.specs.Laws.{is_served, HasNoSharing}
 use Rattle.wasm_spec_instructions.proofs.Attempts.{no, the_same, absent, and-both, bind-gives, guard-gives, some-gives}
-use Rattle.wasm_spec_instructions.proofs.Within.{Stack, Entered, lpops, lpush, starting, fresh, lend, deeper, entered, taking, signed, lenter_block, lenter, lshut, lcatch, ldelegate, lrun, check, handle}
-use Rattle.wasm_spec_instructions.proofs.Fits.{onto, rev, onto-append, rev-onto, rev-rev, FitsStack, match-append, match-itself, true-match, pops-sound, end-sound, Split, push-sound, fresh-sound}
-use Rattle.wasm_spec_instructions.proofs.Sets.{pops-sets, Covers, covered-behind, taken-same}
+use Rattle.wasm_spec_instructions.proofs.FrameMachine.{Stack, Entered, lpops, lpush, starting, fresh, lend, deeper, entered, taking, signed, lenter_block, lenter, lshut, lcatch, ldelegate, lrun, check, handle}
+use Rattle.wasm_spec_instructions.proofs.OperandFits.{onto, rev, onto-append, rev-onto, rev-rev, FitsStack, match-append, match-itself, true-match, pops-sound, end-sound, Split, push-sound, fresh-sound}
+use Rattle.wasm_spec_instructions.proofs.LocalSets.{pops-sets, Covers, covered-behind, taken-same}
 use Rattle.wasm_spec_instructions.proofs.Tables.{AreShut, AllUnshared, by_operands, by_labels}
-use Rattle.wasm_spec_instructions.proofs.Shut.{push-shut, pops-shut, simple-shut, taken-shut}
-use Rattle.wasm_spec_instructions.proofs.Complete.{over, condition, condition_types, handler-holds, handler-finds}
-use Rattle.wasm_spec_instructions.proofs.Sound.{Ruled, IsReady, rule-sound, passed, took}
+use Rattle.wasm_spec_instructions.proofs.SharedFlags.{push-shut, pops-shut, simple-shut, taken-shut}
+use Rattle.wasm_spec_instructions.proofs.RuleCompleteness.{over, condition, condition_types, handler-holds, handler-finds}
+use Rattle.wasm_spec_instructions.proofs.RuleSoundness.{Ruled, IsReady, rule-sound, passed, took}
 
 -- why tables can be typed: nothing converts references, or nothing branches by a table, or nothing is shared
 pub data Mode : Type 0 where

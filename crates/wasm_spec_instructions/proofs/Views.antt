@@ -30,7 +30,7 @@ use Rattle.wasm_operators.specs.WasmOperatorsPlain.declared.structs.StructOperat
 use Rattle.wasm_operators.specs.WasmOperatorsPlain.declared.structs.StructOperator.TheVariants.{StructNew, StructNewDefault, StructGet, StructGetS, StructGetU, StructSet, StructNewDesc, StructNewDefaultDesc}
 use Rattle.wasm_operators.specs.WasmOperatorsPlain.declared.arrays.ArrayOperator.{ArrayOperator}
 use Rattle.wasm_operators.specs.WasmOperatorsPlain.declared.arrays.ArrayOperator.TheVariants.{ArrayNew, ArrayNewDefault, ArrayNewFixed, ArrayNewData, ArrayNewElem, ArrayGet, ArrayGetS, ArrayGetU, ArraySet, ArrayLen, ArrayFill, ArrayCopy, ArrayInitData, ArrayInitElem}
-use Rattle.wasm_operator_steps.specs.Shapes.{call_shape, parametric_shape, variable_shape, table_shape, access_shape, memory_shape, computing, reference_shape, cast_shape, continuation_shape, conversion_shape, struct_shape, array_shape, shape_of}
+use Rattle.wasm_spec_steps.specs.Shapes.{call_shape, parametric_shape, variable_shape, table_shape, access_shape, memory_shape, computing, reference_shape, cast_shape, continuation_shape, conversion_shape, struct_shape, array_shape, shape_of}
 use Rattle.wasm_spec_instructions.specs.Code.{Opening, a_block, a_loop, an_if, a_try, a_try_table, Handler, a_catch, a_catch_all, written, handler_written, delegate_, else_, end_, is_simple}
 
 call-simple : (op : CallOperator) → is_simple (call_shape op) ≡ true

@@ -8,10 +8,10 @@ use Rattle.wasm_operators.specs.Legacy as legacy
 use Rattle.wasm_operators.specs.Instructions as instruction
 use Rattle.wasm_operators.specs.Instructions.{Instruction}
 use Rattle.wasm_operators.specs.declared.control.Catch.{Catch}
-use Rattle.wasm_operator_steps.specs.Machine.{Kind, block_kind, loop_kind, if_kind, try_table_kind, legacy_try_kind, legacy_catch_kind, legacy_catch_all_kind}
-use Rattle.wasm_operator_steps.specs.Actions.{of_tag, OperandTypes, params, Check, has, is_exception, exceptions, few_clauses}
-use Rattle.wasm_operator_steps.specs.Shapes.{Shape, opening, closing, turning, catching, delegating, nothing, one, block_checks, catch_checks, legacy_checks, shape_of}
-use Rattle.wasm_operator_steps.specs.WasmSpecRules.WasmSpec.Syntax.{i32}
+use Rattle.wasm_spec_steps.specs.Machine.{Kind, block_kind, loop_kind, if_kind, try_table_kind, legacy_try_kind, legacy_catch_kind, legacy_catch_all_kind}
+use Rattle.wasm_spec_steps.specs.Actions.{of_tag, OperandTypes, params, Check, has, is_exception, exceptions, few_clauses}
+use Rattle.wasm_spec_steps.specs.Shapes.{Shape, opening, closing, turning, catching, delegating, nothing, one, block_checks, catch_checks, legacy_checks, shape_of}
+use Rattle.wasm_spec_steps.specs.WasmSpecRules.WasmSpec.Syntax.{i32}
 
 -- what begins a block
 pub data Opening : Type 0 where

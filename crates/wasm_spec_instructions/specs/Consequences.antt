@@ -1,9 +1,9 @@
 -- What follows of typings: what they say beyond single rules, and what they don't.
 -- Core Specification 3.0, Validation, Instructions (Instruction Sequences), and Appendix, Validation Algorithm and Type Soundness (Principal Types).
 use Rattle.std.specs.Prelude.{◌≡◌, ℕ, true, List, [], ◌∷◌, ◌++◌, Some, length, slice_get}
-use Rattle.wasm_operator_steps.specs.WasmSpecRules.WasmSpec.Syntax.{Val}
-use Rattle.wasm_operator_steps.specs.WasmSpecRules.WasmSpec.MatchingTests.{World}
-use Rattle.wasm_operator_steps.specs.Bodies.{Surroundings}
+use Rattle.wasm_spec_steps.specs.WasmSpecRules.WasmSpec.Syntax.{Val}
+use Rattle.wasm_spec_steps.specs.WasmSpecRules.WasmSpec.MatchingTests.{World}
+use Rattle.wasm_spec_steps.specs.Bodies.{Surroundings}
 use Rattle.wasm_spec_instructions.specs.Code.{Code, and_then, IsProper}
 use Rattle.wasm_spec_instructions.specs.ValueTypes.{ValueType, vals, Match, IsInOrder, AreUnshared}
 use Rattle.wasm_spec_instructions.specs.Scopes.{Scope, behind, is_set}

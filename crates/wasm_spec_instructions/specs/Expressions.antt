@@ -1,10 +1,10 @@
 -- Expressions: a sequence of instructions and an `end`, which gives these types from none.
 -- Core Specification 3.0, Validation, Instructions (Expressions), and Modules (Functions).
 use Rattle.std.specs.Prelude.{ℕ, false, List, [], ◌∷◌, Some}
-use Rattle.wasm_operator_steps.specs.WasmSpecRules.WasmSpec.Syntax.{Val}
-use Rattle.wasm_operator_steps.specs.WasmSpecRules.WasmSpec.MatchingTests.{World}
+use Rattle.wasm_spec_steps.specs.WasmSpecRules.WasmSpec.Syntax.{Val}
+use Rattle.wasm_spec_steps.specs.WasmSpecRules.WasmSpec.MatchingTests.{World}
 use Rattle.wasm_operators.specs.Instructions.{Instruction}
-use Rattle.wasm_operator_steps.specs.Bodies.{Surroundings}
+use Rattle.wasm_spec_steps.specs.Bodies.{Surroundings}
 use Rattle.wasm_spec_instructions.specs.Code.{Code, Is}
 use Rattle.wasm_spec_instructions.specs.ValueTypes.{vals}
 use Rattle.wasm_spec_instructions.specs.Scopes.{Scope}

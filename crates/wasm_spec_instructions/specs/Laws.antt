@@ -1,21 +1,21 @@
 -- The machine accepts exactly what the rules type.
 use Rattle.std.specs.Prelude.{◌≡◌, ℕ, Bool, true, false, List, [], ◌∷◌, Some}
 use Rattle.std.specs.List.{Contains}
-use Rattle.wasm_operator_steps.specs.WasmSpecRules.WasmSpec.MatchingTests.{World, IsWorld}
-use Rattle.wasm_operator_steps.specs.WasmSpecRules.WasmSpec.TypeLaws.{KeepsKind, AreAccepted}
-use Rattle.wasm_operator_steps.specs.WasmSpecRules.Signatures.{Signature, signature_of}
-use Rattle.wasm_operator_steps.specs.WasmSpecRules.WasmSpec.Features.{Features}
-use Rattle.wasm_operator_steps.specs.WasmSpecRules.WasmSpec.Syntax.{Sub}
-use Rattle.wasm_operator_steps.specs.WasmSpecRules.WasmSpec.Matching.{shared_flag}
-use Rattle.wasm_operator_steps.specs.WasmSpecRules.Attempts.{passes}
+use Rattle.wasm_spec_steps.specs.WasmSpecRules.WasmSpec.MatchingTests.{World, IsWorld}
+use Rattle.wasm_spec_steps.specs.WasmSpecRules.WasmSpec.TypeLaws.{KeepsKind, AreAccepted}
+use Rattle.wasm_spec_steps.specs.WasmSpecRules.Signatures.{Signature, signature_of}
+use Rattle.wasm_spec_steps.specs.WasmSpecRules.WasmSpec.Features.{Features}
+use Rattle.wasm_spec_steps.specs.WasmSpecRules.WasmSpec.Syntax.{Sub}
+use Rattle.wasm_spec_steps.specs.WasmSpecRules.WasmSpec.Matching.{shared_flag}
+use Rattle.wasm_spec_steps.specs.WasmSpecRules.Attempts.{passes}
 use Rattle.wasm_operators.specs.Control.{Block}
 use Rattle.wasm_operators.specs.Instructions as instruction
 use Rattle.wasm_operators.specs.Instructions.{Instruction}
-use Rattle.wasm_operator_steps.specs.Bodies.{Surroundings}
-use Rattle.wasm_operator_steps.specs.Machine.{State}
-use Rattle.wasm_operator_steps.specs.Meanings.{block_signature}
-use Rattle.wasm_operator_steps.specs.Shapes.{Shape, branching_by_table, converting, shape_of}
-use Rattle.wasm_operator_steps.specs.Steps.{is_finished, start, steps_in}
+use Rattle.wasm_spec_steps.specs.Bodies.{Surroundings}
+use Rattle.wasm_spec_steps.specs.Machine.{State}
+use Rattle.wasm_spec_steps.specs.Meanings.{block_signature}
+use Rattle.wasm_spec_steps.specs.Shapes.{Shape, branching_by_table, converting, shape_of}
+use Rattle.wasm_spec_steps.specs.Steps.{is_finished, start, steps_in}
 use Rattle.wasm_spec_instructions.specs.Code.{Code, Is}
 use Rattle.wasm_spec_instructions.specs.ValueTypes.{IsInOrder, AreUnshared}
 use Rattle.wasm_spec_instructions.specs.Expressions.{IsTypedExpression}

@@ -5,7 +5,7 @@ pub mod Rules
 pub mod Sequences
 pub mod Expressions
 pub mod Names
-pub mod Continued
-pub mod Fixed
+pub mod ContinuationShapes
+pub mod FixedShapes
 pub mod Laws
 pub mod Consequences

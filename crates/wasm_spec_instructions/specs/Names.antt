@@ -1,9 +1,9 @@
 -- How the rules of the shapes read for single instructions, as the standard writes them.
 -- Core Specification 3.0, Validation, Instructions.
 use Rattle.std.specs.Prelude.{◌≡◌, ◌↔◌, ℕ, true, false, List, [], ◌∷◌, ◌++◌, Option, Some, slice_get}
-use Rattle.wasm_operator_steps.specs.WasmSpecRules.WasmSpec.Syntax.{Heap, Ref, Val, i32, reference}
-use Rattle.wasm_operator_steps.specs.WasmSpecRules.WasmSpec.MatchingTests.{World}
-use Rattle.wasm_operator_steps.specs.WasmSpecRules.Signatures.{Signature}
+use Rattle.wasm_spec_steps.specs.WasmSpecRules.WasmSpec.Syntax.{Heap, Ref, Val, i32, reference}
+use Rattle.wasm_spec_steps.specs.WasmSpecRules.WasmSpec.MatchingTests.{World}
+use Rattle.wasm_spec_steps.specs.WasmSpecRules.Signatures.{Signature}
 use Rattle.wasm_operators.specs.Control as control
 use Rattle.wasm_operators.specs.Legacy as legacy
 use Rattle.wasm_operators.specs.References as references
@@ -11,12 +11,12 @@ use Rattle.wasm_operators.specs.Instructions as instruction
 use Rattle.wasm_operators.specs.Instructions.{Instruction}
 use Rattle.wasm_operators.specs.WasmOperatorsPlain.declared.calls.CallOperator.TheVariants.{ReturnCall}
 use Rattle.wasm_operators.specs.WasmOperatorsPlain.declared.variables.VariableOperator.TheVariants.{LocalGet, LocalSet, LocalTee}
-use Rattle.wasm_operator_steps.specs.Matching.{matches_vals}
-use Rattle.wasm_operator_steps.specs.Bodies.{Local, Surroundings}
-use Rattle.wasm_operator_steps.specs.Machine.{same_number}
-use Rattle.wasm_operator_steps.specs.Actions.{of_function, reaches_function}
-use Rattle.wasm_operator_steps.specs.Shapes.{shape_of}
-use Rattle.wasm_operator_steps.specs.Meanings.{signature_at}
+use Rattle.wasm_spec_steps.specs.Matching.{matches_vals}
+use Rattle.wasm_spec_steps.specs.Bodies.{Local, Surroundings}
+use Rattle.wasm_spec_steps.specs.Machine.{same_number}
+use Rattle.wasm_spec_steps.specs.Actions.{of_function, reaches_function}
+use Rattle.wasm_spec_steps.specs.Shapes.{shape_of}
+use Rattle.wasm_spec_steps.specs.Meanings.{signature_at}
 use Rattle.wasm_spec_instructions.specs.ValueTypes.{ValueType, val, vals, reference_at, reference_type, matches_type}
 use Rattle.wasm_spec_instructions.specs.Scopes.{Scope, is_set, holds_in}
 use Rattle.wasm_spec_instructions.specs.Rules.{MatchLabels, Rule}

@@ -2,13 +2,13 @@
 -- takes and gives, the rule of its shape is the rule of that instruction. Core Specification 3.0, Validation, Instructions.
 -- Lists of types have the last one on top.
 use Rattle.std.specs.Prelude.{◌≡◌, ℕ, Bool, true, false, List, [], ◌∷◌, ◌++◌, Option, Some, slice_get}
-use Rattle.wasm_operator_steps.specs.WasmSpecRules.WasmSpec.Syntax.{AbstractHeap, eq_heap, Heap, abstract_heap, concrete, exact, Ref, Val, i32, reference}
-use Rattle.wasm_operator_steps.specs.WasmSpecRules.WasmSpec.MatchingTests.{World}
-use Rattle.wasm_operator_steps.specs.Bodies.{Local, Surroundings}
-use Rattle.wasm_operator_steps.specs.Machine.{same_number}
-use Rattle.wasm_operator_steps.specs.Meanings.{descriptor_at}
-use Rattle.wasm_operator_steps.specs.Actions.{OperandTypes, Check}
-use Rattle.wasm_operator_steps.specs.Shapes.{Shape, plain, ending, dropping, choosing, testing_null, asserting_non_null, branching_on_null, branching_on_non_null, branching_by_table, setting, giving_back, measuring, comparing, converting, describing, rethrowing}
+use Rattle.wasm_spec_steps.specs.WasmSpecRules.WasmSpec.Syntax.{AbstractHeap, eq_heap, Heap, abstract_heap, concrete, exact, Ref, Val, i32, reference}
+use Rattle.wasm_spec_steps.specs.WasmSpecRules.WasmSpec.MatchingTests.{World}
+use Rattle.wasm_spec_steps.specs.Bodies.{Local, Surroundings}
+use Rattle.wasm_spec_steps.specs.Machine.{same_number}
+use Rattle.wasm_spec_steps.specs.Meanings.{descriptor_at}
+use Rattle.wasm_spec_steps.specs.Actions.{OperandTypes, Check}
+use Rattle.wasm_spec_steps.specs.Shapes.{Shape, plain, ending, dropping, choosing, testing_null, asserting_non_null, branching_on_null, branching_on_non_null, branching_by_table, setting, giving_back, measuring, comparing, converting, describing, rethrowing}
 use Rattle.wasm_spec_instructions.specs.ValueTypes.{ValueType, val, reference_at, reference_type, vals, matches_type, Match}
 use Rattle.wasm_spec_instructions.specs.Scopes.{Scope, types_in, AllHold}
 

@@ -3,15 +3,15 @@
 -- proposal (labels of handlers).
 use Rattle.std.specs.Prelude.{◌≡◌, ℕ, Bool, true, false, ◌||◌, List, [], ◌∷◌, ◌++◌, length, Option, Some, slice_get}
 use Rattle.std.specs.Option.{option_map}
-use Rattle.wasm_operator_steps.specs.WasmSpecRules.WasmSpec.Syntax.{Val}
-use Rattle.wasm_operator_steps.specs.WasmSpecRules.WasmSpec.MatchingTests.{World}
-use Rattle.wasm_operator_steps.specs.WasmSpecRules.Attempts.{◌>>=◌, passes, among, last_of, front_of}
-use Rattle.wasm_operator_steps.specs.Matching.{matches_vals, match_some}
-use Rattle.wasm_operator_steps.specs.Bodies.{Surroundings}
-use Rattle.wasm_operator_steps.specs.Machine.{State}
-use Rattle.wasm_operator_steps.specs.Actions as actions
-use Rattle.wasm_operator_steps.specs.Actions.{OperandTypes, label, returned, repeated, front, last, taken_by, given_by, joined, before, Check, local_is_set, each_matches, each_matches_some}
-use Rattle.wasm_operator_steps.specs.Meanings.{copies, one, all_but, last_ones, continued_signature, types_at, holds}
+use Rattle.wasm_spec_steps.specs.WasmSpecRules.WasmSpec.Syntax.{Val}
+use Rattle.wasm_spec_steps.specs.WasmSpecRules.WasmSpec.MatchingTests.{World}
+use Rattle.wasm_spec_steps.specs.WasmSpecRules.Attempts.{◌>>=◌, passes, among, last_of, front_of}
+use Rattle.wasm_spec_steps.specs.Matching.{matches_vals, match_some}
+use Rattle.wasm_spec_steps.specs.Bodies.{Surroundings}
+use Rattle.wasm_spec_steps.specs.Machine.{State}
+use Rattle.wasm_spec_steps.specs.Actions as actions
+use Rattle.wasm_spec_steps.specs.Actions.{OperandTypes, label, returned, repeated, front, last, taken_by, given_by, joined, before, Check, local_is_set, each_matches, each_matches_some}
+use Rattle.wasm_spec_steps.specs.Meanings.{copies, one, all_but, last_ones, continued_signature, types_at, holds}
 
 -- the types at the labels, the innermost first; which of the labels are of handlers, where an exception is caught; the results of the
 -- function; and the locals that were set

@@ -1,10 +1,10 @@
 -- Value types with those that only validation knows, and how they match.
 -- Core Specification 3.0, Structure, Types (Value Types: `bot`; Heap Types: `bot`), and Validation, Matching.
 use Rattle.std.specs.Prelude.{◌≡◌, Bool, true, false, List, [], ◌∷◌, Option, Some, None}
-use Rattle.wasm_operator_steps.specs.WasmSpecRules.WasmSpec.Syntax.{Heap, Val, reference}
-use Rattle.wasm_operator_steps.specs.WasmSpecRules.WasmSpec.ValueTypes.{implies}
-use Rattle.wasm_operator_steps.specs.WasmSpecRules.WasmSpec.Matching.{is_shared_heap}
-use Rattle.wasm_operator_steps.specs.WasmSpecRules.WasmSpec.MatchingTests.{World, matches_heap, matches_val}
+use Rattle.wasm_spec_steps.specs.WasmSpecRules.WasmSpec.Syntax.{Heap, Val, reference}
+use Rattle.wasm_spec_steps.specs.WasmSpecRules.WasmSpec.ValueTypes.{implies}
+use Rattle.wasm_spec_steps.specs.WasmSpecRules.WasmSpec.Matching.{is_shared_heap}
+use Rattle.wasm_spec_steps.specs.WasmSpecRules.WasmSpec.MatchingTests.{World, matches_heap, matches_val}
 
 -- `bot`; a reference, with null or without, to the heap type `bot`; and the types that can be written
 pub data ValueType (R : Type 0) : Type 0 where

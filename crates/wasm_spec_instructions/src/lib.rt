@@ -3,7 +3,7 @@
 #![tactic(auto)]
 
 ghost use Rattle.wasm_spec_instructions.specs.Names.{InstructionsHaveTheirRules};
-ghost use Rattle.wasm_spec_instructions.specs.Fixed.{FixedTypesHaveTheirRules};
+ghost use Rattle.wasm_spec_instructions.specs.FixedShapes.{FixedTypesHaveTheirRules};
 ghost use Rattle.wasm_spec_instructions.specs.Consequences.{ScopesMayGrow, SequencesCompose, TypedCodeIsProper, ResultsArePrincipal};
 ghost use Rattle.wasm_spec_instructions.specs.Laws.{AcceptedCodeIsWithoutLegacy, Soundness, SoundnessWithoutSharing, Completeness, CodeIsUnique, WorldsAreInOrder, AcceptedWorldsAreInOrder};
 
@@ -13,26 +13,26 @@ pub fn algorithm_is_complete<R>()
 {}
 
 /// Where legacy exceptions are off, the machine accepts no operator of theirs.
-#[tactic(auto, using(crate::proofs::Main::accepted_code_is_without_legacy))]
+#[tactic(auto, using(crate::proofs::MainTheorems::accepted_code_is_without_legacy))]
 pub fn accepted_code_is_without_legacy<R>()
     ensures { AcceptedCodeIsWithoutLegacy R }
 {}
 
 /// What the machine accepts, the rules type: code without conversions of references, or else
 /// without branches by a table.
-#[tactic(auto, using(crate::proofs::Main::soundness))]
+#[tactic(auto, using(crate::proofs::MainTheorems::soundness))]
 pub fn algorithm_is_sound<R>()
     ensures { Soundness R }
 {}
 
 /// Where nothing is shared, whatever the machine accepts, the rules type.
-#[tactic(auto, using(crate::proofs::Main::soundness_without_sharing))]
+#[tactic(auto, using(crate::proofs::MainTheorems::soundness_without_sharing))]
 pub fn algorithm_is_sound_without_sharing<R>()
     ensures { SoundnessWithoutSharing R }
 {}
 
 /// A flat list of instructions is written for one structured code at most.
-#[tactic(auto, using(crate::proofs::Unique::code_is_unique))]
+#[tactic(auto, using(crate::proofs::CodeUniqueness::code_is_unique))]
 pub fn code_is_unique()
     ensures { CodeIsUnique }
 {}
@@ -51,7 +51,7 @@ pub fn instructions_have_their_rules<R>()
 {}
 
 /// So are those of instructions whose types the context fixes.
-#[tactic(auto, using(crate::proofs::Fixed::fixed_types_have_their_rules))]
+#[tactic(auto, using(crate::proofs::FixedTypeRules::fixed_types_have_their_rules))]
 pub fn fixed_types_have_their_rules<R>()
     ensures { FixedTypesHaveTheirRules R }
 {}
@@ -62,25 +62,25 @@ pub fn accepted_worlds_are_in_order<R>()
 {}
 
 /// What is typed in a scope is typed in each with more labels, results and locals that are set.
-#[tactic(auto, using(crate::proofs::Growing::scopes_may_grow))]
+#[tactic(auto, using(crate::proofs::ScopeGrowth::scopes_may_grow))]
 pub fn scopes_may_grow<R>()
     ensures { ScopesMayGrow R }
 {}
 
 /// The rule of sequences holds of any code in place of the first instruction.
-#[tactic(auto, using(crate::proofs::Composing::sequences_compose))]
+#[tactic(auto, using(crate::proofs::Composition::sequences_compose))]
 pub fn sequences_compose<R>()
     ensures { SequencesCompose R }
 {}
 
 /// Code that is typed is proper.
-#[tactic(auto, using(crate::proofs::Growing::typed_code_is_proper))]
+#[tactic(auto, using(crate::proofs::ScopeGrowth::typed_code_is_proper))]
 pub fn typed_code_is_proper<R>()
     ensures { TypedCodeIsProper R }
 {}
 
 /// Where nothing is shared, the types that code gives from some are determined up to subsumption.
-#[tactic(auto, using(crate::proofs::Principal::results_are_principal))]
+#[tactic(auto, using(crate::proofs::PrincipalTypes::results_are_principal))]
 pub fn results_are_principal<R>()
     ensures { ResultsArePrincipal R }
 {}

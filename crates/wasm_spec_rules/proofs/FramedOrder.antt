@@ -5,7 +5,7 @@ use Rattle.std.proofs.lemmas.Bool.{eqb-true, eqb-false, ltb-true, ltb-false, lt-
 use Rattle.wasm_readers_errors.specs.WasmSpec.Values.{name_at, u32_at, sized_at, items_at}
 use Rattle.wasm_readers_errors.specs.WasmSpec.Framing.{Piece, Version, Custom, Counted, Start, DataCount, CodeStart, CodeEntry, Unknown, End, place, Below, InOrder, piece_of, number_of, code_pieces, pieces_of, all_pieces, IsFramed}
 use Rattle.wasm_spec_rules.specs.Sections.{rank, rank_of_section, ranks}
-use Rattle.wasm_spec_rules.proofs.Ordered.{Follows, done, free, here, body, later}
+use Rattle.wasm_spec_rules.proofs.SectionRanks.{Follows, done, free, here, body, later}
 use Rattle.wasm_spec_rules.proofs.Tests.{truth, then_some, map_some, when, unless, chosen}
 
 -- fewer ranks are behind

@@ -1,7 +1,7 @@
 pub use Rattle.wasm_readers_errors.proofs.WasmSpec as WasmSpec
 pub mod Tests
 pub mod Verdicts
-pub mod Ordered
+pub mod SectionRanks
 pub mod FramedOrder
 pub mod ModuleExamples
 pub mod LimitLaws

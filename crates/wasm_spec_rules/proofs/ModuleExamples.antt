@@ -10,7 +10,7 @@ use Rattle.wasm_readers_errors.specs.WasmSpec.Syntax.{Val, i32, Sub, map_sub}
 use Rattle.wasm_readers_errors.specs.WasmSpec.BinarySections.{GlobalEntry}
 use Rattle.wasm_readers_errors.specs.WasmSpec.Closing.{resolve}
 use Rattle.wasm_readers_errors.specs.WasmSpec.GroupRules.{IsValidType}
-use Rattle.wasm_readers_errors.proofs.WasmSpec.Numbering.{members-close}
+use Rattle.wasm_readers_errors.proofs.WasmSpec.ReferenceNumbers.{members-close}
 use Rattle.wasm_readers_errors.specs.WasmSpec.Framing.{Piece, Version, End, u16_at}
 use Rattle.wasm_spec_rules.specs.Parts.{Parts, Expression}
 use Rattle.wasm_spec_rules.specs.IndexSpaces.{IndexSpaces, IsFunctionType, signature, signature_at}

@@ -1,6 +1,6 @@
 -- The proposals that a set of flags allows, and whether it asks for the limits of `crate_limits`.
 use Rattle.wasm_readers_errors.specs.WasmSpec.Features.{Features}
-use Rattle.wasm_readers_errors.specs.WasmReadersFeatures.On.{has_flag}
+use Rattle.wasm_readers_errors.specs.WasmReadersFeatures.ProposalFlags.{has_flag}
 use Rattle.wasm_readers_errors.specs.WasmReadersFeatures.declared.features.WasmFeatures.{WasmFeatures}
 
 abbrev pub features_of : WasmFeatures → Features

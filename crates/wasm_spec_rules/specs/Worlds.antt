@@ -3,7 +3,7 @@
 use Rattle.std.specs.Prelude.{ℕ, zero, suc, Bool, ◌||◌, List, [], ◌∷◌, length, Option, Some, None, if◌then◌else◌}
 use Rattle.wasm_readers_errors.specs.WasmSpec.MatchingTests.{World}
 use Rattle.wasm_readers_errors.specs.WasmSpec.Syntax.{Sub}
-use Rattle.wasm_readers_errors.specs.WasmSpec.Declared.{supertype}
+use Rattle.wasm_readers_errors.specs.WasmSpec.SupertypeOrder.{supertype}
 use Rattle.wasm_spec_rules.specs.Contexts.{Context}
 use Rattle.wasm_spec_rules.specs.Attempts.{◌>>=◌, passes}
 

@@ -1,7 +1,7 @@
 -- The table that is made in one pass is the side table.
 use Rattle.std.proofs.Common.{◌≡◌, refl, sym, ap, subst, ◌∙◌, ℕ, zero, suc, ◌+◌, ◌≤◌, true, false, List, [], ◌∷◌, ◌++◌, map, length, Option, Some, None, option_map, slice_get, arith, length-append, append_assoc, append-nil}
-use Rattle.wasm_operator_steps.specs.WasmSpecRules.WasmSpec.MatchingTests.{World}
-use Rattle.wasm_operator_steps.specs.WasmSpecRules.Attempts.{◌>>=◌}
+use Rattle.wasm_spec_steps.specs.WasmSpecRules.WasmSpec.MatchingTests.{World}
+use Rattle.wasm_spec_steps.specs.WasmSpecRules.Attempts.{◌>>=◌}
 use Rattle.wasm_operators.specs.Control as control
 use Rattle.wasm_operators.specs.Control.{Block, Control}
 use Rattle.wasm_operators.specs.Legacy as legacy
@@ -12,24 +12,24 @@ use Rattle.wasm_operators.specs.Continuations as continuations
 use Rattle.wasm_operators.specs.Continuations.{Continuation}
 use Rattle.wasm_operators.specs.WasmOperatorsProposals.declared.continuations.Handle.{Handle}
 use Rattle.wasm_operators.specs.WasmOperatorsProposals.declared.continuations.Handle.TheVariants as handle
-use Rattle.wasm_operator_steps.specs.WasmSpecRules.WasmSpec.Syntax.{exn_heap, abstract_heap}
-use Rattle.wasm_operator_steps.specs.Actions.{OperandTypes, params, of_tag, joined}
-use Rattle.wasm_operator_steps.specs.Shapes.{one, nullable_to, reference_to, takes_of}
+use Rattle.wasm_spec_steps.specs.WasmSpecRules.WasmSpec.Syntax.{exn_heap, abstract_heap}
+use Rattle.wasm_spec_steps.specs.Actions.{OperandTypes, params, of_tag, joined}
+use Rattle.wasm_spec_steps.specs.Shapes.{one, nullable_to, reference_to, takes_of}
 use Rattle.wasm_operators.specs.Instructions as instruction
 use Rattle.wasm_operators.specs.Instructions.{Instruction}
 use Rattle.wasm_operators.specs.declared.control.Catch.{Catch}
-use Rattle.wasm_operator_steps.specs.Bodies.{Surroundings}
-use Rattle.wasm_operator_steps.specs.Machine.{State}
-use Rattle.wasm_operator_steps.specs.Steps.{step_in}
+use Rattle.wasm_spec_steps.specs.Bodies.{Surroundings}
+use Rattle.wasm_spec_steps.specs.Machine.{State}
+use Rattle.wasm_spec_steps.specs.Steps.{step_in}
 use Rattle.wasm_spec_side_tables.specs.declared.entry.Entry.{Entry}
 use Rattle.wasm_spec_side_tables.specs.declared.entry.Place.{Place}
 use Rattle.wasm_spec_side_tables.specs.declared.entry.OpenBlock.{OpenBlock}
 use Rattle.wasm_spec_side_tables.specs.SideTables.{Placed, Branch, to_label, past_then, catching_to, handling_to, catch_label, branches, control_branches, legacy_branches, reference_branches, cast_branches, handle_branches, continuation_branches, Nesting, opens_loop, opens, turns, closes, stays, nesting, control_nesting, legacy_nesting, past, place_past, place_behind, place_behind_then, Label, back_to, ahead, labels_behind, place_by, branch_place, counts, entries_at, entries_from}
-use Rattle.wasm_spec_side_tables.specs.Building.{Nest, Built, opened, nested, number_of, resolved, resolved_each, begun, planned, planned_each, noted, built}
+use Rattle.wasm_spec_side_tables.specs.OnePassTables.{Nest, Built, opened, nested, number_of, resolved, resolved_each, begun, planned, planned_each, noted, built}
 use Rattle.wasm_spec_side_tables.specs.Laws.{TablesAreRight}
 use Rattle.wasm_spec_side_tables.proofs.Lists.{the_same, absent, bind-gives, bind-at}
-use Rattle.wasm_spec_side_tables.proofs.Nesting.{Stands, Ends, new_block}
-use Rattle.wasm_spec_side_tables.proofs.Linking.{Says, Linked, onward, nests, ends}
+use Rattle.wasm_spec_side_tables.proofs.ClosedBlocks.{Stands, Ends, new_block}
+use Rattle.wasm_spec_side_tables.proofs.LabelLinks.{Says, Linked, onward, nests, ends}
 
 -- only what opens a block branches past its first part
 abbrev For : Nesting → Branch → Type 0

@@ -1,4 +1,4 @@
 pub mod Lists
-pub mod Nesting
-pub mod Linking
+pub mod ClosedBlocks
+pub mod LabelLinks
 pub mod Entries

@@ -1,6 +1,6 @@
 -- Items of lists that are written and made longer, and attempts that succeed.
 use Rattle.std.proofs.Common.{◌≡◌, ◌≢◌, refl, ap, ℕ, zero, suc, ◌<◌, Bool, true, false, List, [], ◌∷◌, ◌++◌, length, Option, Some, None, slice_get, slice_set, arith}
-use Rattle.wasm_operator_steps.specs.WasmSpecRules.Attempts.{◌>>=◌, guard}
+use Rattle.wasm_spec_steps.specs.WasmSpecRules.Attempts.{◌>>=◌, guard}
 
 pub the_same : {X : Type 0} (x y : X) → Some x ≡ Some y → x ≡ y
 the_same x y e = cc

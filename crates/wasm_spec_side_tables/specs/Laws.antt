@@ -1,10 +1,10 @@
 -- The table that is made in one pass is the side table.
 use Rattle.std.specs.Prelude.{◌≡◌, List, [], Some}
-use Rattle.wasm_operator_steps.specs.WasmSpecRules.WasmSpec.MatchingTests.{World}
-use Rattle.wasm_operator_steps.specs.Bodies.{Surroundings}
-use Rattle.wasm_operator_steps.specs.Machine.{State}
+use Rattle.wasm_spec_steps.specs.WasmSpecRules.WasmSpec.MatchingTests.{World}
+use Rattle.wasm_spec_steps.specs.Bodies.{Surroundings}
+use Rattle.wasm_spec_steps.specs.Machine.{State}
 use Rattle.wasm_spec_side_tables.specs.SideTables.{Placed, side_table}
-use Rattle.wasm_spec_side_tables.specs.Building.{Built, resolved_each, begun, built}
+use Rattle.wasm_spec_side_tables.specs.OnePassTables.{Built, resolved_each, begun, built}
 
 -- Where instructions lead from a state to another and close all blocks, the table that was made is theirs.
 abbrev pub TablesAreRight : (R : Type 0) → Type 0

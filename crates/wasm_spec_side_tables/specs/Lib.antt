@@ -1,3 +1,3 @@
 pub mod SideTables
-pub mod Building
+pub mod OnePassTables
 pub mod Laws

@@ -2,8 +2,8 @@
 -- many operands it keeps, and how many below these it drops. Core Specification 3.0, Execution, Control Instructions.
 use Rattle.std.specs.Prelude.{ℕ, zero, suc, ◌+◌, ◌-◌, max, true, false, List, [], ◌∷◌, ◌++◌, map, length, drop, Option, Some, None, slice_get}
 use Rattle.std.specs.Option.{option_map}
-use Rattle.wasm_operator_steps.specs.WasmSpecRules.WasmSpec.MatchingTests.{World}
-use Rattle.wasm_operator_steps.specs.WasmSpecRules.Attempts.{◌>>=◌}
+use Rattle.wasm_spec_steps.specs.WasmSpecRules.WasmSpec.MatchingTests.{World}
+use Rattle.wasm_spec_steps.specs.WasmSpecRules.Attempts.{◌>>=◌}
 use Rattle.wasm_operators.specs.Control as control
 use Rattle.wasm_operators.specs.Control.{Block, empty_block, value_block, func_block, Control}
 use Rattle.wasm_operators.specs.Legacy as legacy
@@ -18,13 +18,13 @@ use Rattle.wasm_operators.specs.Continuations as continuations
 use Rattle.wasm_operators.specs.Continuations.{Continuation}
 use Rattle.wasm_operators.specs.WasmOperatorsProposals.declared.continuations.Handle.{Handle}
 use Rattle.wasm_operators.specs.WasmOperatorsProposals.declared.continuations.Handle.TheVariants as handle
-use Rattle.wasm_operator_steps.specs.WasmSpecRules.WasmSpec.Syntax.{exn_heap, abstract_heap}
-use Rattle.wasm_operator_steps.specs.Actions.{OperandTypes, params, of_tag, joined}
-use Rattle.wasm_operator_steps.specs.Shapes.{one, nullable_to, reference_to, takes_of}
-use Rattle.wasm_operator_steps.specs.Bodies.{Surroundings}
-use Rattle.wasm_operator_steps.specs.Machine.{State}
-use Rattle.wasm_operator_steps.specs.Meanings.{label_by, frame_signature, type_signature, types_at}
-use Rattle.wasm_operator_steps.specs.Steps.{step_in}
+use Rattle.wasm_spec_steps.specs.WasmSpecRules.WasmSpec.Syntax.{exn_heap, abstract_heap}
+use Rattle.wasm_spec_steps.specs.Actions.{OperandTypes, params, of_tag, joined}
+use Rattle.wasm_spec_steps.specs.Shapes.{one, nullable_to, reference_to, takes_of}
+use Rattle.wasm_spec_steps.specs.Bodies.{Surroundings}
+use Rattle.wasm_spec_steps.specs.Machine.{State}
+use Rattle.wasm_spec_steps.specs.Meanings.{label_by, frame_signature, type_signature, types_at}
+use Rattle.wasm_spec_steps.specs.Steps.{step_in}
 use Rattle.wasm_spec_side_tables.specs.declared.entry.Entry.{Entry}
 use Rattle.wasm_spec_side_tables.specs.declared.entry.Place.{Place}
 

@@ -2,7 +2,7 @@
 
 ghost use Rattle.std.specs.Prelude.{◌≡◌, IfSome, slice_set};
 ghost use Rattle.wasm_spec_side_tables.specs.SideTables.{catch_label};
-ghost use Rattle.wasm_spec_side_tables.specs.Building.{resolved};
+ghost use Rattle.wasm_spec_side_tables.specs.OnePassTables.{resolved};
 
 use crate::entry::{Entry, Place};
 use std::alloc::Allocator;

@@ -14,19 +14,19 @@ use Rattle.wasm_operators.specs.Instructions.{Instruction, instruction_at, plain
 use Rattle.wasm_operators.specs.WasmOperatorsPlain.Numeric.{numeric_from, numeric_operators}
 use Rattle.wasm_operators.specs.WasmOperatorsPlain.Constants.{constant_from}
 use Rattle.wasm_operators.specs.WasmOperatorsPlain.Variables.{variable_from}
-use Rattle.wasm_operator_steps.specs.WasmSpecRules.Contexts.{Context}
-use Rattle.wasm_operator_steps.specs.WasmSpecRules.Parts.{Expression}
-use Rattle.wasm_operator_steps.specs.WasmSpecRules.Attempts.{◌>>=◌}
-use Rattle.wasm_operator_steps.specs.WasmSpecRules.Signatures.{signature_of}
-use Rattle.wasm_operator_steps.specs.WasmSpecRules.Worlds.{world_of}
-use Rattle.wasm_operator_steps.specs.Bodies.{Local, Surroundings}
-use Rattle.wasm_operator_steps.specs.FunctionBodies.{Declaration, declared_at, IsBodyOfFunction}
-use Rattle.wasm_operator_steps.specs.Sequences.{Are}
-use Rattle.wasm_operator_steps.specs.Steps.{start}
+use Rattle.wasm_spec_steps.specs.WasmSpecRules.Contexts.{Context}
+use Rattle.wasm_spec_steps.specs.WasmSpecRules.Parts.{Expression}
+use Rattle.wasm_spec_steps.specs.WasmSpecRules.Attempts.{◌>>=◌}
+use Rattle.wasm_spec_steps.specs.WasmSpecRules.Signatures.{signature_of}
+use Rattle.wasm_spec_steps.specs.WasmSpecRules.Worlds.{world_of}
+use Rattle.wasm_spec_steps.specs.Bodies.{Local, Surroundings}
+use Rattle.wasm_spec_steps.specs.FunctionBodies.{Declaration, declared_at, IsBodyOfFunction}
+use Rattle.wasm_spec_steps.specs.Sequences.{Are}
+use Rattle.wasm_spec_steps.specs.Steps.{start}
 use Rattle.wasm_spec_validity.specs.Expressions.{instructions_of, expression_at, named}
 use Rattle.wasm_spec_validity.specs.Typing.{seeing, around, IsConstant, IsTypedGlobal, IsTypedTable, IsTypedElement, IsTypedData}
 use Rattle.wasm_spec_validity.specs.Examples.{without_gc, without_extended_const, context, global_of, one_i32, one_i64, global_0, one_and_two, NumberIsConstant, NumberOfAnotherType, NoTwoEnds, NoMissingEnd, FirstGlobalIsRead, NoMutableGlobalIsRead, NoGlobalIsReadWithoutGc, ImportedGlobalIsRead, NoGlobalReadsItself, SumIsConstant, NoSumWithoutExtendedConst, TableReadsImportedGlobal, NoTableReadsOwnGlobal, OffsetsAreAddresses, NoOtherDataOffsets, NoOtherElementOffsets, OffsetReadsGlobal, function_1, null, FunctionAndNullAreItems, NoNullItem, initialized, three_globals, itself, GlobalsComeBehindImports, BodiesGiveResults, NoExchangedBodies, NoLastBodyWithoutEnd, OneGlobalIsImported, ReadToItsEnd, NothingReadWithoutEnd, FunctionIsNamed}
-use Rattle.wasm_spec_validity.proofs.Determined.{determined, leads, leads-if, all_of, last_of, are_all_read, is_constant_expression, is_constant-if, is_constant-by}
+use Rattle.wasm_spec_validity.proofs.ExpressionTests.{determined, leads, leads-if, all_of, last_of, are_all_read, is_constant_expression, is_constant-if, is_constant-by}
 
 no : false ≡ true → ⊥
 no e = cc

@@ -17,15 +17,15 @@ use Rattle.wasm_operators.specs.Control.{Control, unreachable, nop, else_, end_,
 use Rattle.wasm_operators.specs.References as references
 use Rattle.wasm_operators.specs.Instructions as instruction
 use Rattle.wasm_operators.specs.Instructions.{Instruction, control}
-use Rattle.wasm_operator_steps.specs.WasmSpecRules.Attempts.{◌>>=◌, guard}
-use Rattle.wasm_operator_steps.specs.Bodies.{Surroundings}
-use Rattle.wasm_operator_steps.specs.Machine.{Operand, Frame, State, push_operand, push_vals, pop_any, as_reference, pop_reference, pop_vals}
-use Rattle.wasm_operator_steps.specs.Actions.{OperandTypes, Check, Action, take, give, convert}
-use Rattle.wasm_operator_steps.specs.Shapes.{Shape, plain, converting, computing, shape_of}
-use Rattle.wasm_operator_steps.specs.Meanings.{frame_signature, types_at, holds, is_below_either, converted, pop_frame, may_end, leave_in, act, run}
-use Rattle.wasm_operator_steps.specs.Steps.{checked, actions_of, is_open, step_in}
-use Rattle.wasm_operator_steps.specs.ConstantExpressions.{is_constant}
-use Rattle.wasm_operator_steps.proofs.TakenInTurn.{pop_any-frames, pop_vals-frames}
+use Rattle.wasm_spec_steps.specs.WasmSpecRules.Attempts.{◌>>=◌, guard}
+use Rattle.wasm_spec_steps.specs.Bodies.{Surroundings}
+use Rattle.wasm_spec_steps.specs.Machine.{Operand, Frame, State, push_operand, push_vals, pop_any, as_reference, pop_reference, pop_vals}
+use Rattle.wasm_spec_steps.specs.Actions.{OperandTypes, Check, Action, take, give, convert}
+use Rattle.wasm_spec_steps.specs.Shapes.{Shape, plain, converting, computing, shape_of}
+use Rattle.wasm_spec_steps.specs.Meanings.{frame_signature, types_at, holds, is_below_either, converted, pop_frame, may_end, leave_in, act, run}
+use Rattle.wasm_spec_steps.specs.Steps.{checked, actions_of, is_open, step_in}
+use Rattle.wasm_spec_steps.specs.ConstantExpressions.{is_constant}
+use Rattle.wasm_spec_steps.proofs.OperandSequences.{pop_any-frames, pop_vals-frames}
 use Rattle.wasm_spec_validity.specs.Expressions.{is_end}
 
 no : false ≡ true → ⊥

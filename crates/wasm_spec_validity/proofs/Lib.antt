@@ -1,16 +1,16 @@
-pub use Rattle.wasm_operator_steps.proofs as WasmOperatorSteps
-pub mod Numbered
-pub mod Plain
-pub mod Cutting
+pub use Rattle.wasm_spec_steps.proofs as WasmSpecSteps
+pub mod FirstAppearances
+pub mod PlainModules
+pub mod InstructionCuts
 pub mod Frames
-pub mod Whole
-pub mod Determined
-pub mod Named
+pub mod WholeExpressions
+pub mod ExpressionTests
+pub mod ExpressionNames
 pub mod Examples
 pub mod References
 pub mod ModuleExamples
-pub mod SeenLittle
-pub mod Renamed
-pub mod SeenAlone
+pub mod ConstantContexts
+pub mod ConstantRenamings
+pub mod ContextWorlds
 pub mod RenamedBodies
 pub mod OneToOne

@@ -15,22 +15,22 @@ use Rattle.wasm_spec.specs.Limits.{most_segments, most_body_bytes}
 use Rattle.wasm_operators.specs.Control.{control_from, value_block}
 use Rattle.wasm_operators.specs.Instructions.{instruction_at, plain_from}
 use Rattle.wasm_operators.specs.WasmOperatorsPlain.Constants.{constant_from}
-use Rattle.wasm_operator_steps.specs.WasmSpecRules.Contexts.{Context}
-use Rattle.wasm_operator_steps.specs.WasmSpecRules.IndexSpaces.{IndexSpaces, index_spaces, IsFunctionType}
-use Rattle.wasm_operator_steps.specs.WasmSpecRules.ItemRules.{IsValidTableEntry, IsValidMemory, IsValidTag, IsValidGlobal}
-use Rattle.wasm_operator_steps.specs.WasmSpecRules.LinkRules.{IsValidImport, IsValidExport, IsValidStart}
-use Rattle.wasm_operator_steps.specs.WasmSpecRules.ModuleExamples.{first_version}
-use Rattle.wasm_operator_steps.specs.WasmSpecRules.Modules.{IsAllowedPiece}
-use Rattle.wasm_operator_steps.specs.WasmSpecRules.Parts.{Parts, Expression, all_items, index}
-use Rattle.wasm_operator_steps.specs.WasmSpecRules.SegmentRules.{IsValidElement, IsValidData}
-use Rattle.wasm_operator_steps.specs.WasmSpecRules.Worlds.{world_of}
-use Rattle.wasm_operator_steps.specs.Steps.{start}
+use Rattle.wasm_spec_steps.specs.WasmSpecRules.Contexts.{Context}
+use Rattle.wasm_spec_steps.specs.WasmSpecRules.IndexSpaces.{IndexSpaces, index_spaces, IsFunctionType}
+use Rattle.wasm_spec_steps.specs.WasmSpecRules.ItemRules.{IsValidTableEntry, IsValidMemory, IsValidTag, IsValidGlobal}
+use Rattle.wasm_spec_steps.specs.WasmSpecRules.LinkRules.{IsValidImport, IsValidExport, IsValidStart}
+use Rattle.wasm_spec_steps.specs.WasmSpecRules.ModuleExamples.{first_version}
+use Rattle.wasm_spec_steps.specs.WasmSpecRules.Modules.{IsAllowedPiece}
+use Rattle.wasm_spec_steps.specs.WasmSpecRules.Parts.{Parts, Expression, all_items, index}
+use Rattle.wasm_spec_steps.specs.WasmSpecRules.SegmentRules.{IsValidElement, IsValidData}
+use Rattle.wasm_spec_steps.specs.WasmSpecRules.Worlds.{world_of}
+use Rattle.wasm_spec_steps.specs.Steps.{start}
 use Rattle.wasm_spec_validity.specs.Examples.{one_i32, initialized, GlobalIsModule, NoGlobalOfAnotherType}
 use Rattle.wasm_spec_validity.specs.Expressions.{expression_at}
 use Rattle.wasm_spec_validity.specs.Modules.{context_of, imported_globals, number_at, IsTyped}
 use Rattle.wasm_spec_validity.specs.Typing.{seeing, around, IsConstant, IsTypedGlobal, IsTypedTable, IsTypedElement, IsTypedData}
-use Rattle.wasm_spec_validity.proofs.Determined.{is_constant-if, is_constant-by}
-use Rattle.wasm_spec_validity.proofs.Numbered.{types_are_numbered}
+use Rattle.wasm_spec_validity.proofs.ExpressionTests.{is_constant-if, is_constant-by}
+use Rattle.wasm_spec_validity.proofs.FirstAppearances.{types_are_numbered}
 
 no : false ≡ true → ⊥
 no e = cc

@@ -2,19 +2,19 @@
 use Rattle.std.proofs.Common.{◌≡◌, refl, ℕ, Bool, List, ◌==◌}
 use Rattle.std.specs.Prelude.{◌↔◌}
 use Rattle.wasm_spec.specs.Features.{Features}
-use Rattle.wasm_operator_steps.specs.WasmSpecRules.Contexts.{Context, map_context}
-use Rattle.wasm_operator_steps.specs.WasmSpecRules.Parts.{Parts}
-use Rattle.wasm_operator_steps.specs.WasmSpecRules.Worlds.{world_of}
-use Rattle.wasm_operator_steps.specs.Bodies.{Surroundings}
-use Rattle.wasm_operator_steps.specs.FunctionBodies.{IsBodyOfFunction}
-use Rattle.wasm_operator_steps.specs.Machine.{State}
-use Rattle.wasm_operator_steps.specs.Renaming.{Renames}
-use Rattle.wasm_operator_steps.proofs.WorldsRenamed.{world_of-map}
+use Rattle.wasm_spec_steps.specs.WasmSpecRules.Contexts.{Context, map_context}
+use Rattle.wasm_spec_steps.specs.WasmSpecRules.Parts.{Parts}
+use Rattle.wasm_spec_steps.specs.WasmSpecRules.Worlds.{world_of}
+use Rattle.wasm_spec_steps.specs.Bodies.{Surroundings}
+use Rattle.wasm_spec_steps.specs.FunctionBodies.{IsBodyOfFunction}
+use Rattle.wasm_spec_steps.specs.Machine.{State}
+use Rattle.wasm_spec_steps.specs.Renaming.{Renames}
+use Rattle.wasm_spec_steps.proofs.WorldsRenamed.{world_of-map}
 use Rattle.wasm_spec_validity.specs.OneToOne.{SaysTheSame, ConstantsAlso, Below, NumberingsSayTheSame}
 use Rattle.wasm_spec_validity.specs.OtherContexts.{ConstantsAreRenamed}
 use Rattle.wasm_spec_validity.specs.Renaming.{ShowsRenamed}
 use Rattle.wasm_spec_validity.specs.Typing.{HasTypedBodies}
-use Rattle.wasm_spec_validity.proofs.Renamed.{constants_rename}
+use Rattle.wasm_spec_validity.proofs.ConstantRenamings.{constants_rename}
 use Rattle.wasm_spec_validity.proofs.RenamedBodies.{bodies_are_renamed, typed_bodies_are_renamed}
 
 shown : {T R : Type 0} (f : T → R) (C : Context T) → ShowsRenamed f C (map_context f C)

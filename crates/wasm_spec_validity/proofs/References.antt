@@ -24,23 +24,23 @@ use Rattle.wasm_operators.specs.References.{Reference}
 use Rattle.wasm_operators.specs.References as references
 use Rattle.wasm_operators.specs.Instructions as instruction
 use Rattle.wasm_operators.specs.Instructions.{Instruction}
-use Rattle.wasm_operator_steps.specs.WasmSpecRules.Attempts.{◌>>=◌, guard, among}
-use Rattle.wasm_operator_steps.specs.WasmSpecRules.LinkRules.{exported_functions, listed_functions, referenced}
-use Rattle.wasm_operator_steps.specs.WasmSpecRules.Parts.{Parts, Expression, expressions_of}
-use Rattle.wasm_operator_steps.specs.WasmSpecRules.Worlds.{world_of}
-use Rattle.wasm_operator_steps.specs.Bodies.{Surroundings}
-use Rattle.wasm_operator_steps.specs.Machine.{State}
-use Rattle.wasm_operator_steps.specs.Actions.{reference_types, Check, has, function_is_referenced, Action, need, function_reference}
-use Rattle.wasm_operator_steps.specs.Shapes.{computing, nothing, shape_of}
-use Rattle.wasm_operator_steps.specs.Meanings.{ref_to, one, holds, function_heap, act, run}
-use Rattle.wasm_operator_steps.specs.Steps.{start, actions_of, is_open, step_in, steps_in}
-use Rattle.wasm_operator_steps.specs.ConstantExpressions.{is_constant}
-use Rattle.wasm_operator_steps.specs.ConstantRules.{is_allowed, is_readable, IsConstantExpression}
+use Rattle.wasm_spec_steps.specs.WasmSpecRules.Attempts.{◌>>=◌, guard, among}
+use Rattle.wasm_spec_steps.specs.WasmSpecRules.LinkRules.{exported_functions, listed_functions, referenced}
+use Rattle.wasm_spec_steps.specs.WasmSpecRules.Parts.{Parts, Expression, expressions_of}
+use Rattle.wasm_spec_steps.specs.WasmSpecRules.Worlds.{world_of}
+use Rattle.wasm_spec_steps.specs.Bodies.{Surroundings}
+use Rattle.wasm_spec_steps.specs.Machine.{State}
+use Rattle.wasm_spec_steps.specs.Actions.{reference_types, Check, has, function_is_referenced, Action, need, function_reference}
+use Rattle.wasm_spec_steps.specs.Shapes.{computing, nothing, shape_of}
+use Rattle.wasm_spec_steps.specs.Meanings.{ref_to, one, holds, function_heap, act, run}
+use Rattle.wasm_spec_steps.specs.Steps.{start, actions_of, is_open, step_in, steps_in}
+use Rattle.wasm_spec_steps.specs.ConstantExpressions.{is_constant}
+use Rattle.wasm_spec_steps.specs.ConstantRules.{is_allowed, is_readable, IsConstantExpression}
 use Rattle.wasm_spec_validity.specs.Expressions.{instructions_of, functions_named, named}
 use Rattle.wasm_spec_validity.specs.Typing.{from_on, seeing, around}
 use Rattle.wasm_spec_validity.specs.Modules.{context_of, imported_globals}
 use Rattle.wasm_spec_validity.specs.Laws.{with_globals, OwnReferencesSuffice}
-use Rattle.wasm_spec_validity.proofs.Determined.{determined}
+use Rattle.wasm_spec_validity.proofs.ExpressionTests.{determined}
 use Rattle.wasm_spec_validity.proofs.Frames.{bind-gives, guard-gives, plain-types, step-runs}
 
 no : false ≡ true → ⊥

@@ -9,20 +9,20 @@ use Rattle.wasm_spec.specs.MatchingTests.{World}
 use Rattle.wasm_spec.specs.Limits.{most_locals}
 use Rattle.wasm_operators.specs.Control.{func_block}
 use Rattle.wasm_operators.specs.Instructions.{Instruction}
-use Rattle.wasm_operator_steps.specs.WasmSpecRules.Attempts.{◌>>=◌, among}
-use Rattle.wasm_operator_steps.specs.WasmSpecRules.Contexts.{Context, map_context}
-use Rattle.wasm_operator_steps.specs.WasmSpecRules.Signatures.{Signature, signature_of, resolve_heap, resolve_ref, resolve_val}
-use Rattle.wasm_operator_steps.specs.WasmSpecRules.Worlds.{world_of}
-use Rattle.wasm_operator_steps.specs.Bodies.{Local, Surroundings, map_local}
-use Rattle.wasm_operator_steps.specs.FunctionBodies.{Declaration, local_declared, type_of, declared_locals, with_locals, local_taken, declared_at, IsBody, IsBodyOfFunction}
-use Rattle.wasm_operator_steps.specs.Machine.{State, map_state}
-use Rattle.wasm_operator_steps.specs.Meanings.{has_default}
-use Rattle.wasm_operator_steps.specs.Renaming.{Renames}
-use Rattle.wasm_operator_steps.specs.Steps.{start, steps_in, is_finished}
-use Rattle.wasm_operator_steps.proofs.Attempts.{bind-map, then-map, if-map}
-use Rattle.wasm_operator_steps.proofs.StepsRenamed.{is_finished-map}
+use Rattle.wasm_spec_steps.specs.WasmSpecRules.Attempts.{◌>>=◌, among}
+use Rattle.wasm_spec_steps.specs.WasmSpecRules.Contexts.{Context, map_context}
+use Rattle.wasm_spec_steps.specs.WasmSpecRules.Signatures.{Signature, signature_of, resolve_heap, resolve_ref, resolve_val}
+use Rattle.wasm_spec_steps.specs.WasmSpecRules.Worlds.{world_of}
+use Rattle.wasm_spec_steps.specs.Bodies.{Local, Surroundings, map_local}
+use Rattle.wasm_spec_steps.specs.FunctionBodies.{Declaration, local_declared, type_of, declared_locals, with_locals, local_taken, declared_at, IsBody, IsBodyOfFunction}
+use Rattle.wasm_spec_steps.specs.Machine.{State, map_state}
+use Rattle.wasm_spec_steps.specs.Meanings.{has_default}
+use Rattle.wasm_spec_steps.specs.Renaming.{Renames}
+use Rattle.wasm_spec_steps.specs.Steps.{start, steps_in, is_finished}
+use Rattle.wasm_spec_steps.proofs.Attempts.{bind-map, then-map, if-map}
+use Rattle.wasm_spec_steps.proofs.StepsRenamed.{is_finished-map}
 use Rattle.wasm_spec_validity.specs.Renaming.{BodiesAreRenamed, TypedBodiesAreRenamed}
-use Rattle.wasm_spec_validity.proofs.SeenAlone.{naming, steps_renamed}
+use Rattle.wasm_spec_validity.proofs.ContextWorlds.{naming, steps_renamed}
 
 none : {P X : Type 0} (x : X) → None ≡ Some x → P
 none x e = absurd cc

@@ -4,9 +4,9 @@ use Rattle.wasm_spec.specs.Syntax.{Ref, Val, i32, i64, reference, func, Sub, Tab
 use Rattle.wasm_spec.specs.BinarySections.{GlobalEntry, functions, expressions, passive, active, funcref, ref_func}
 use Rattle.wasm_spec.specs.Features.{Features}
 use Rattle.wasm_spec.specs.TypeExamples.{features}
-use Rattle.wasm_operator_steps.specs.WasmSpecRules.Contexts.{Context}
-use Rattle.wasm_operator_steps.specs.WasmSpecRules.ModuleExamples.{first_version}
-use Rattle.wasm_operator_steps.specs.WasmSpecRules.Parts.{Parts, Expression}
+use Rattle.wasm_spec_steps.specs.WasmSpecRules.Contexts.{Context}
+use Rattle.wasm_spec_steps.specs.WasmSpecRules.ModuleExamples.{first_version}
+use Rattle.wasm_spec_steps.specs.WasmSpecRules.Parts.{Parts, Expression}
 use Rattle.wasm_spec_validity.specs.Expressions.{expression_at, named}
 use Rattle.wasm_spec_validity.specs.Typing.{IsTypedGlobal, IsTypedTable, IsTypedElement, IsTypedData, HasTypedConstants, HasTypedBodies}
 use Rattle.wasm_spec_validity.specs.Modules.{imported_globals, IsValidModule}

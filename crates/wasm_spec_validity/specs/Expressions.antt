@@ -3,7 +3,7 @@
 use Rattle.std.specs.Prelude.{ℕ, zero, suc, Bool, true, false, ◌-◌, if◌then◌else◌, List, [], ◌∷◌, length, take, Option, Some, None}
 use Rattle.std.specs.List.{flat_map}
 use Rattle.std.specs.Option.{option_map, option_and_then}
-use Rattle.wasm_operator_steps.specs.WasmSpecRules.Parts.{Expression}
+use Rattle.wasm_spec_steps.specs.WasmSpecRules.Parts.{Expression}
 use Rattle.wasm_operators.specs.Control.{end_}
 use Rattle.wasm_operators.specs.References.{ref_func}
 use Rattle.wasm_operators.specs.Instructions.{Instruction, control, reference, instruction_at}

@@ -6,15 +6,15 @@ use Rattle.wasm_spec.specs.MatchingTests.{World}
 use Rattle.wasm_spec.specs.Syntax.{Val}
 use Rattle.wasm_spec.specs.Trees.{DefType}
 use Rattle.wasm_operators.specs.Control.{value_block}
-use Rattle.wasm_operator_steps.specs.WasmSpecRules.Contexts.{Context}
-use Rattle.wasm_operator_steps.specs.WasmSpecRules.IndexSpaces.{IndexSpaces}
-use Rattle.wasm_operator_steps.specs.WasmSpecRules.Modules.{IsWellFormed}
-use Rattle.wasm_operator_steps.specs.WasmSpecRules.Parts.{Parts, Expression, expressions_of}
-use Rattle.wasm_operator_steps.specs.WasmSpecRules.Worlds.{world_of}
-use Rattle.wasm_operator_steps.specs.Bodies.{Surroundings}
-use Rattle.wasm_operator_steps.specs.ConstantRules.{IsConstantExpression}
-use Rattle.wasm_operator_steps.specs.Machine.{State}
-use Rattle.wasm_operator_steps.specs.Steps.{start}
+use Rattle.wasm_spec_steps.specs.WasmSpecRules.Contexts.{Context}
+use Rattle.wasm_spec_steps.specs.WasmSpecRules.IndexSpaces.{IndexSpaces}
+use Rattle.wasm_spec_steps.specs.WasmSpecRules.Modules.{IsWellFormed}
+use Rattle.wasm_spec_steps.specs.WasmSpecRules.Parts.{Parts, Expression, expressions_of}
+use Rattle.wasm_spec_steps.specs.WasmSpecRules.Worlds.{world_of}
+use Rattle.wasm_spec_steps.specs.Bodies.{Surroundings}
+use Rattle.wasm_spec_steps.specs.ConstantRules.{IsConstantExpression}
+use Rattle.wasm_spec_steps.specs.Machine.{State}
+use Rattle.wasm_spec_steps.specs.Steps.{start}
 use Rattle.wasm_spec_validity.specs.Expressions.{expression_at}
 use Rattle.wasm_spec_validity.specs.Typing.{around, IsConstant}
 use Rattle.wasm_spec_validity.specs.Modules.{Numbering, context_of, imported_globals, IsValidModule}

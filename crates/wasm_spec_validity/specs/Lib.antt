@@ -1,5 +1,5 @@
 pub use Rattle.wasm_operators.specs as WasmOperators
-pub use Rattle.wasm_operator_steps.specs as WasmOperatorSteps
+pub use Rattle.wasm_spec_steps.specs as WasmSpecSteps
 pub mod Expressions
 pub mod Typing
 pub mod Modules

@@ -2,10 +2,10 @@
 use Rattle.std.specs.Prelude.{◌≡◌, ℕ, nat_eq, List, length, slice_get, Some}
 use Rattle.wasm_spec.specs.Features.{Features}
 use Rattle.wasm_spec.specs.Trees.{DefType}
-use Rattle.wasm_operator_steps.specs.WasmSpecRules.Contexts.{Context, context_over, AreFirst}
-use Rattle.wasm_operator_steps.specs.WasmSpecRules.IndexSpaces.{IndexSpaces, index_spaces, imported, globals_in, type_at}
-use Rattle.wasm_operator_steps.specs.WasmSpecRules.Modules.{IsWellFormed}
-use Rattle.wasm_operator_steps.specs.WasmSpecRules.Parts.{Parts}
+use Rattle.wasm_spec_steps.specs.WasmSpecRules.Contexts.{Context, context_over, AreFirst}
+use Rattle.wasm_spec_steps.specs.WasmSpecRules.IndexSpaces.{IndexSpaces, index_spaces, imported, globals_in, type_at}
+use Rattle.wasm_spec_steps.specs.WasmSpecRules.Modules.{IsWellFormed}
+use Rattle.wasm_spec_steps.specs.WasmSpecRules.Parts.{Parts}
 use Rattle.wasm_spec_validity.specs.Expressions.{expression_at, named}
 use Rattle.wasm_spec_validity.specs.Typing.{HasTypedConstants, HasTypedBodies}
 

@@ -2,13 +2,13 @@
 -- Core Specification 3.0, Validation, Modules (Functions), and Validation, Instructions (Constant Expressions).
 use Rattle.std.specs.Prelude.{◌≡◌, ◌↔◌, ◌<◌, ◌==◌, ℕ, Bool, List}
 use Rattle.wasm_spec.specs.Features.{Features}
-use Rattle.wasm_operator_steps.specs.WasmSpecRules.Contexts.{Context, map_context}
-use Rattle.wasm_operator_steps.specs.WasmSpecRules.Parts.{Parts}
-use Rattle.wasm_operator_steps.specs.WasmSpecRules.Worlds.{world_of}
-use Rattle.wasm_operator_steps.specs.Bodies.{Surroundings, map_surroundings}
-use Rattle.wasm_operator_steps.specs.ConstantRules.{IsConstantExpression}
-use Rattle.wasm_operator_steps.specs.FunctionBodies.{IsBodyOfFunction}
-use Rattle.wasm_operator_steps.specs.Machine.{State, map_state}
+use Rattle.wasm_spec_steps.specs.WasmSpecRules.Contexts.{Context, map_context}
+use Rattle.wasm_spec_steps.specs.WasmSpecRules.Parts.{Parts}
+use Rattle.wasm_spec_steps.specs.WasmSpecRules.Worlds.{world_of}
+use Rattle.wasm_spec_steps.specs.Bodies.{Surroundings, map_surroundings}
+use Rattle.wasm_spec_steps.specs.ConstantRules.{IsConstantExpression}
+use Rattle.wasm_spec_steps.specs.FunctionBodies.{IsBodyOfFunction}
+use Rattle.wasm_spec_steps.specs.Machine.{State, map_state}
 use Rattle.wasm_spec_validity.specs.Typing.{HasTypedBodies}
 
 -- What is a constant expression over some identities is one over others, which stand for them, and leads to the same state.

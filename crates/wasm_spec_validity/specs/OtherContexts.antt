@@ -3,14 +3,14 @@
 use Rattle.std.specs.Prelude.{◌≡◌, ℕ, true, List}
 use Rattle.wasm_spec.specs.Features.{Features}
 use Rattle.wasm_spec.specs.MatchingTests.{World}
-use Rattle.wasm_operator_steps.specs.WasmSpecRules.Contexts.{Context}
+use Rattle.wasm_spec_steps.specs.WasmSpecRules.Contexts.{Context}
 use Rattle.wasm_operators.specs.Instructions.{Instruction}
-use Rattle.wasm_operator_steps.specs.Bodies.{Surroundings, map_surroundings}
-use Rattle.wasm_operator_steps.specs.ConstantExpressions.{is_constant}
-use Rattle.wasm_operator_steps.specs.ConstantRules.{IsConstantExpression}
-use Rattle.wasm_operator_steps.specs.Machine.{State, map_state}
-use Rattle.wasm_operator_steps.specs.Renaming.{Renames}
-use Rattle.wasm_operator_steps.specs.Steps.{step_in}
+use Rattle.wasm_spec_steps.specs.Bodies.{Surroundings, map_surroundings}
+use Rattle.wasm_spec_steps.specs.ConstantExpressions.{is_constant}
+use Rattle.wasm_spec_steps.specs.ConstantRules.{IsConstantExpression}
+use Rattle.wasm_spec_steps.specs.Machine.{State, map_state}
+use Rattle.wasm_spec_steps.specs.Renaming.{Renames}
+use Rattle.wasm_spec_steps.specs.Steps.{step_in}
 
 -- the same features, locals, types, functions, globals and references, with all else from another context
 abbrev pub elsewhere : {R : Type 0} → Surroundings R → Context R → Surroundings R

@@ -3,12 +3,12 @@
 use Rattle.std.specs.Prelude.{◌≡◌, ◌↔◌, ℕ, Bool, List}
 use Rattle.wasm_spec.specs.Features.{Features}
 use Rattle.wasm_spec.specs.MatchingTests.{World}
-use Rattle.wasm_operator_steps.specs.WasmSpecRules.Attempts.{among}
-use Rattle.wasm_operator_steps.specs.WasmSpecRules.Contexts.{Context, map_context}
-use Rattle.wasm_operator_steps.specs.WasmSpecRules.Parts.{Parts}
-use Rattle.wasm_operator_steps.specs.WasmSpecRules.Worlds.{world_of}
-use Rattle.wasm_operator_steps.specs.FunctionBodies.{IsBodyOfFunction}
-use Rattle.wasm_operator_steps.specs.Renaming.{Renames}
+use Rattle.wasm_spec_steps.specs.WasmSpecRules.Attempts.{among}
+use Rattle.wasm_spec_steps.specs.WasmSpecRules.Contexts.{Context, map_context}
+use Rattle.wasm_spec_steps.specs.WasmSpecRules.Parts.{Parts}
+use Rattle.wasm_spec_steps.specs.WasmSpecRules.Worlds.{world_of}
+use Rattle.wasm_spec_steps.specs.FunctionBodies.{IsBodyOfFunction}
+use Rattle.wasm_spec_steps.specs.Renaming.{Renames}
 use Rattle.wasm_spec_validity.specs.Typing.{HasTypedBodies}
 
 -- The context D has all that C has, with each identity renamed, apart from what types declare and the list of the functions that count as

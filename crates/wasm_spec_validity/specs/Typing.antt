@@ -5,17 +5,17 @@ use Rattle.std.specs.List.{All}
 use Rattle.wasm_spec.specs.Syntax.{Val, reference, map_ref, map_val}
 use Rattle.wasm_spec.specs.BinarySections.{TableEntry, GlobalEntry, Element, ElementItems, functions, expressions, Data, SegmentMode, passive, active, declarative}
 use Rattle.wasm_spec.specs.Features.{Features}
-use Rattle.wasm_operator_steps.specs.WasmSpecRules.Contexts.{Context}
-use Rattle.wasm_operator_steps.specs.WasmSpecRules.Parts.{Parts, Expression}
-use Rattle.wasm_operator_steps.specs.WasmSpecRules.SegmentRules.{index_or_first}
-use Rattle.wasm_operator_steps.specs.WasmSpecRules.Worlds.{world_of}
+use Rattle.wasm_spec_steps.specs.WasmSpecRules.Contexts.{Context}
+use Rattle.wasm_spec_steps.specs.WasmSpecRules.Parts.{Parts, Expression}
+use Rattle.wasm_spec_steps.specs.WasmSpecRules.SegmentRules.{index_or_first}
+use Rattle.wasm_spec_steps.specs.WasmSpecRules.Worlds.{world_of}
 use Rattle.wasm_operators.specs.Control.{value_block}
-use Rattle.wasm_operator_steps.specs.Bodies.{Surroundings}
-use Rattle.wasm_operator_steps.specs.ConstantRules.{IsConstantExpression}
-use Rattle.wasm_operator_steps.specs.FunctionBodies.{IsBodyOfFunction}
-use Rattle.wasm_operator_steps.specs.Machine.{State}
-use Rattle.wasm_operator_steps.specs.Meanings.{address}
-use Rattle.wasm_operator_steps.specs.Steps.{start}
+use Rattle.wasm_spec_steps.specs.Bodies.{Surroundings}
+use Rattle.wasm_spec_steps.specs.ConstantRules.{IsConstantExpression}
+use Rattle.wasm_spec_steps.specs.FunctionBodies.{IsBodyOfFunction}
+use Rattle.wasm_spec_steps.specs.Machine.{State}
+use Rattle.wasm_spec_steps.specs.Meanings.{address}
+use Rattle.wasm_spec_steps.specs.Steps.{start}
 
 -- the indices below a number
 abbrev pub from_on : ℕ → ℕ → List ℕ

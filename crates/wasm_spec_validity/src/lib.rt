@@ -18,7 +18,7 @@ pub fn types_are_numbered()
 {}
 
 /// A module without constant expressions and bodies is valid where its other rules hold.
-#[tactic(auto, using(crate::proofs::Plain::plain_modules_are_valid))]
+#[tactic(auto, using(crate::proofs::PlainModules::plain_modules_are_valid))]
 pub fn plain_modules_are_valid()
     ensures valid { PlainModulesAreValid }
 {}
@@ -36,14 +36,14 @@ pub fn own_references_suffice()
 {}
 
 /// Constant expressions see the types, the functions and the globals of their context alone.
-#[tactic(auto, using(crate::proofs::SeenLittle::constants_see_little))]
+#[tactic(auto, using(crate::proofs::ConstantContexts::constants_see_little))]
 pub fn constants_see_little<R>()
     ensures little { ConstantsSeeLittle R }
 {}
 
 /// Constant expressions over other identities of types are those over the identities themselves,
 /// renamed.
-#[tactic(auto, using(crate::proofs::Renamed::constants_rename))]
+#[tactic(auto, using(crate::proofs::ConstantRenamings::constants_rename))]
 pub fn constants_rename<R, S>()
     ensures renamed { ConstantsRename R S }
 {}

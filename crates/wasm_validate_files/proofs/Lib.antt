@@ -1,4 +1,4 @@
 pub use Rattle.wasm_validator.proofs.WasmValidatorCanonical as WasmValidatorCanonical
-pub mod Told
+pub mod FileStatuses
 pub mod Escapes
 pub mod Writers

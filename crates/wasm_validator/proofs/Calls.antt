@@ -10,14 +10,14 @@ use Rattle.wasm_spec_rules.specs.StateTable.{Phase, Call, accepted_to, refused_t
 use Rattle.wasm_validator_modules.specs.WasmValidatorCore.declared.error.Error.{Error}
 use Rattle.wasm_validator_modules.specs.WasmValidatorCore.declared.error.Error.TheVariants.{Refused, DuplicateExport, InFunction, OutOfMemory}
 use Rattle.wasm_validator_modules.specs.WasmValidatorCore.Answers.{TypesSoFar}
-use Rattle.wasm_validator_modules.specs.Standing.{Stage, unparsed, in_module, in_code, ended, failed, Standing, HoldsAt, HoldsValid, can_reset_at, may_reset, reset_at, shown_at}
+use Rattle.wasm_validator_modules.specs.ValidatorStages.{Stage, unparsed, in_module, in_code, ended, failed, Standing, HoldsAt, HoldsValid, can_reset_at, may_reset, reset_at, shown_at}
 use Rattle.wasm_validator_modules.specs.States.{is_barred, after_piece, left_by}
 use Rattle.wasm_validator_modules.specs.Payloads.{after_all, IsOutOfMemory, HasNoMemory, IsBehindCode}
 use Rattle.wasm_validator_modules.specs.Table.{phase_of, call_of}
 use Rattle.wasm_validator_modules.specs.Sequences.{KeepsTypes}
-use Rattle.wasm_validator_modules.proofs.Growing.{all_only, all_back}
+use Rattle.wasm_validator_modules.proofs.ListGrowth.{all_only, all_back}
 use Rattle.wasm_validator_modules.proofs.Resets.{refused_keep_types}
-use Rattle.wasm_validator_modules.proofs.TableKept.{accepted_by_table, refused_by_table}
+use Rattle.wasm_validator_modules.proofs.TableSteps.{accepted_by_table, refused_by_table}
 use Rattle.wasm_validator.specs.Calls.{OrReset, payload, reset, for_content, for_order, reset_to, has_turn, is_reading, HasContent, Leads, in_table, has_turn_at, Answers, kind_of, CallsFollowStateTable, UnacceptedModulesKeepTypes}
 
 -- a custom section is never refused

@@ -12,34 +12,34 @@ use Rattle.wasm_spec.specs.Features.{Features, canonical}
 use Rattle.wasm_spec.specs.Trees.{DefType, declared}
 use Rattle.wasm_spec.specs.GroupRules.{IsValidType}
 use Rattle.wasm_spec.specs.TypeLaws.{HasNoRepetition}
-use Rattle.wasm_spec.specs.Declared.{supertype, IsAncestor}
+use Rattle.wasm_spec.specs.SupertypeOrder.{supertype, IsAncestor}
 use Rattle.wasm_spec.specs.Matching.{MatchesVal, MatchesSub}
 use Rattle.wasm_spec.proofs.Matching.{accepted_types_match_ancestors}
-use Rattle.wasm_spec.proofs.Accepted.{valid_type_section_is_accepted}
+use Rattle.wasm_spec.proofs.AcceptedSections.{valid_type_section_is_accepted}
 use Rattle.wasm_spec_rules.specs.FeatureFlags.{features_of}
 use Rattle.wasm_validator_modules.specs.WasmSpecValidity.Modules.{IsValidUpToBodies, IsValidModule, up_to_bodies}
 use Rattle.wasm_readers_errors.specs.WasmReadersFeatures.declared.features.WasmFeatures.{WasmFeatures}
 use Rattle.wasm_validator_type_list.specs.WasmValidatorTypeGroups.Elements.{numbers_from}
 use Rattle.wasm_validator_modules.specs.WasmValidatorCanonical.Sections.{StandsFor}
 use Rattle.wasm_validator_modules.proofs.WasmValidatorCanonical.Sections.{one_id_for_one_type}
-use Rattle.wasm_validator_type_list.specs.Listing.{Listing}
-use Rattle.wasm_validator_type_list.specs.Listable.{AreListable}
-use Rattle.wasm_validator_type_list.specs.Declares.{declares}
+use Rattle.wasm_validator_type_list.specs.ListViews.{Listing}
+use Rattle.wasm_validator_type_list.specs.GroupOrder.{AreListable}
+use Rattle.wasm_validator_type_list.specs.DeclarationsById.{declares}
 use Rattle.wasm_validator_type_list.specs.DefTypes.{types_of_list}
 use Rattle.wasm_validator_type_list.specs.Laws.{type_of_id}
 use Rattle.wasm_validator_type_list.proofs.Order.{ids_are_ordered_as_types}
-use Rattle.wasm_validator_type_list.proofs.Joined.{types_declare_what_ids_declare}
-use Rattle.wasm_validator_modules.specs.WasmValidatorTypes.Shown.{shown_of}
+use Rattle.wasm_validator_type_list.proofs.IdsAndTypes.{types_declare_what_ids_declare}
+use Rattle.wasm_validator_modules.specs.WasmValidatorTypes.ShownModules.{shown_of}
 use Rattle.wasm_validator_modules.specs.WasmValidatorTypes.declared.shown.Types as shown
 use Rattle.wasm_validator_modules.specs.WasmValidatorCore.declared.error.Error.{Error}
 use Rattle.wasm_validator_modules.specs.WasmValidatorCore.declared.error.Error.TheVariants.{Refused, DuplicateExport, InFunction, OutOfMemory}
 use Rattle.wasm_validator_modules.specs.WasmValidatorCore.Answers.{TypesSoFar}
-use Rattle.wasm_validator_modules.specs.Standing.{Stage, unparsed, in_module, in_code, ended, failed, Standing, may_reset, after_reset}
+use Rattle.wasm_validator_modules.specs.ValidatorStages.{Stage, unparsed, in_module, in_code, ended, failed, Standing, may_reset, after_reset}
 use Rattle.wasm_validator_modules.specs.Verdict.{HasIdsWith, RefusesModule, RefusesUpToBodies, StopsModule}
 use Rattle.wasm_validator.specs.Lists.{DecidesEach}
 use Rattle.wasm_validator.specs.Headline.{types_held, Begins, TypeWithId, its_id, its_type, AreUnderOneId, IsAnswered, IsShown, IsTypeOf, IsIn, Headline}
 use Rattle.wasm_validator.proofs.Lists.{begins_all, Room, Placed, Stood, stood, later, few_answers, first_answer}
-use Rattle.wasm_validator.proofs.Ordered.{types_once, all_at, AreAlike, alike, valid_alone, AreJoined, joined_apart, joined_as_one, vals}
+use Rattle.wasm_validator.proofs.TypeIdOrder.{types_once, all_at, AreAlike, alike, valid_alone, AreJoined, joined_apart, joined_as_one, vals}
 
 -- elements at one place of two lists
 zipped : {X Y : Type 0} (P : X → Y → Type 0) (xs : List X) (ys : List Y) → AllZip P xs ys → (k : ℕ) (x : X) (y : Y) → slice_get xs k ≡ Some x → slice_get ys k ≡ Some y → P x y

@@ -1,11 +1,11 @@
 pub use Rattle.wasm_validator_modules.proofs.WasmLawsCore as WasmLawsCore
 pub use Rattle.wasm_validator_modules.proofs.WasmValidatorCanonical as WasmValidatorCanonical
-pub use Rattle.wasm_validator_modules.proofs.Stays
+pub use Rattle.wasm_validator_modules.proofs.UnmovedValidators
 pub mod Lists
-pub mod Ordered
+pub mod TypeIdOrder
 pub mod Headline
 pub mod Calls
-pub mod Held
-mod Going
+pub mod ShownTypeIds
+mod ModuleSequences
 pub mod ModuleIds
 mod Limits

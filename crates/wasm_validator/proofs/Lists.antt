@@ -9,14 +9,14 @@ use Rattle.wasm_spec_rules.specs.FeatureFlags.{features_of}
 use Rattle.wasm_spec_rules.specs.Modules.{IsWellFormed}
 use Rattle.wasm_readers_errors.specs.WasmReadersFeatures.declared.features.WasmFeatures.{WasmFeatures}
 use Rattle.wasm_validator_type_list.specs.DefTypes.{types_of_list}
-use Rattle.wasm_validator_modules.specs.WasmValidatorTypes.Shown.{shown_of}
+use Rattle.wasm_validator_modules.specs.WasmValidatorTypes.ShownModules.{shown_of}
 use Rattle.wasm_validator_modules.specs.WasmValidatorTypes.declared.shown.Types as shown
 use Rattle.wasm_validator_modules.specs.WasmValidatorCore.declared.error.Error.{Error}
 use Rattle.wasm_validator_modules.specs.WasmValidatorCore.Answers.{TypesSoFar}
-use Rattle.wasm_validator_modules.specs.Standing.{unparsed, ended, Standing, after_reset}
+use Rattle.wasm_validator_modules.specs.ValidatorStages.{unparsed, ended, Standing, after_reset}
 use Rattle.wasm_validator_modules.specs.Verdict.{HasIdsWith, DecidesModule, EndsModule, StopsModule}
 use Rattle.wasm_validator_modules.specs.WasmSpecValidity.Expressions.{expression_at}
-use Rattle.wasm_validator_modules.specs.WasmValidatorCanonical.Counted.{with_types, AreWith}
+use Rattle.wasm_validator_modules.specs.WasmValidatorCanonical.TypeTotals.{with_types, AreWith}
 use Rattle.wasm_validator.specs.Lists.{DecidesEach}
 use Rattle.wasm_validator.specs.Headline.{Begins, HaveIds, HasRoom}
 

@@ -3,11 +3,11 @@ use Rattle.std.proofs.Common.{◌≡◌, ◌<◌, sym, subst, ℕ, Bool, List, l
 use Rattle.std.specs.Bool.{Decides}
 use Rattle.std.specs.List.{All}
 use Rattle.wasm_readers_types.specs.WasmReadersValues.declared.indices.CoreTypeId.{CoreTypeId}
-use Rattle.wasm_validator_type_list.specs.Listing.{Listing, types_in}
+use Rattle.wasm_validator_type_list.specs.ListViews.{Listing, types_in}
 use Rattle.wasm_validator_type_list.proofs.DefTypes.{length-def_types}
 use Rattle.wasm_validator_modules.specs.WasmValidatorCanonical.Indices.{numbers}
 use Rattle.wasm_validator_modules.proofs.WasmValidatorCanonical.NewIds.{known_ids, numbers_below}
-use Rattle.wasm_validator_modules.specs.WasmValidatorCore.Ready.{AreHeld}
+use Rattle.wasm_validator_modules.specs.WasmValidatorCore.OpenLists.{AreHeld}
 
 pub are_held :
     {A : Type 0} (list : Listing A) (held : Bool) (ids : List CoreTypeId) (ns : List ℕ) → numbers ids ≡ ns

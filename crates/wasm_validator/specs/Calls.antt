@@ -8,7 +8,7 @@ use Rattle.wasm_spec_rules.specs.StateTable.{Phase, Call, accepted_to, refused_t
 use Rattle.wasm_validator_modules.specs.WasmValidatorCore.declared.error.Error.{Error}
 use Rattle.wasm_validator_modules.specs.WasmValidatorCore.declared.error.Error.TheVariants.{Refused, DuplicateExport, InFunction, OutOfMemory}
 use Rattle.wasm_validator_modules.specs.WasmValidatorCore.Answers.{TypesSoFar}
-use Rattle.wasm_validator_modules.specs.Standing.{unparsed, Standing, HoldsValid, may_reset, after_reset, Leaves}
+use Rattle.wasm_validator_modules.specs.ValidatorStages.{unparsed, Standing, HoldsValid, may_reset, after_reset, Leaves}
 use Rattle.wasm_validator_modules.specs.States.{after_piece, left_by}
 use Rattle.wasm_validator_modules.specs.Table.{phase_of, call_of}
 use Rattle.wasm_validator_modules.specs.Verdict.{DecidesModule}

@@ -8,25 +8,25 @@ use Rattle.wasm_spec.specs.References.{refs_val}
 use Rattle.wasm_spec.specs.Features.{Features, canonical}
 use Rattle.wasm_spec.specs.Trees.{DefType, declared}
 use Rattle.wasm_spec.specs.TypeLaws.{HasNoRepetition}
-use Rattle.wasm_spec.specs.Declared.{IsAncestor}
+use Rattle.wasm_spec.specs.SupertypeOrder.{IsAncestor}
 use Rattle.wasm_spec.specs.Matching.{MatchesVal, MatchesSub}
 use Rattle.wasm_spec_rules.specs.IndexSpaces.{index_spaces}
 use Rattle.wasm_spec_rules.specs.Modules.{IsWellFormed}
 use Rattle.wasm_validator_modules.specs.WasmSpecValidity.Expressions.{expression_at}
 use Rattle.wasm_validator_modules.specs.WasmSpecValidity.Modules.{IsValidUpToBodies, IsValidModule}
 use Rattle.wasm_readers_types.specs.WasmReadersValues.declared.indices.TheConstants.{MAX_IDS}
-use Rattle.wasm_validator_type_list.specs.Listing.{Listing}
-use Rattle.wasm_validator_type_list.specs.Listable.{AreListable}
-use Rattle.wasm_validator_type_list.specs.Declares.{declares}
+use Rattle.wasm_validator_type_list.specs.ListViews.{Listing}
+use Rattle.wasm_validator_type_list.specs.GroupOrder.{AreListable}
+use Rattle.wasm_validator_type_list.specs.DeclarationsById.{declares}
 use Rattle.wasm_validator_type_list.specs.DefTypes.{types_of_list}
-use Rattle.wasm_validator_modules.specs.WasmValidatorCanonical.Counted.{with_types}
-use Rattle.wasm_validator_modules.specs.WasmValidatorTypes.Shown.{shown_of}
+use Rattle.wasm_validator_modules.specs.WasmValidatorCanonical.TypeTotals.{with_types}
+use Rattle.wasm_validator_modules.specs.WasmValidatorTypes.ShownModules.{shown_of}
 use Rattle.wasm_validator_modules.specs.WasmValidatorTypes.declared.shown.Types as shown
 use Rattle.wasm_validator_modules.specs.WasmValidatorCore.declared.error.Error.{Error}
 use Rattle.wasm_validator_modules.specs.WasmValidatorCore.declared.error.Error.TheVariants.{OutOfMemory}
 use Rattle.wasm_validator_modules.specs.WasmValidatorCore.Answers.{TypesSoFar}
-use Rattle.wasm_validator_modules.specs.Shows.{ShowModule}
-use Rattle.wasm_validator_modules.specs.Standing.{Stage, unparsed, in_module, in_code, ended, failed}
+use Rattle.wasm_validator_modules.specs.ShownModules.{ShowModule}
+use Rattle.wasm_validator_modules.specs.ValidatorStages.{Stage, unparsed, in_module, in_code, ended, failed}
 
 -- the types that a validator holds
 abbrev pub types_held : Stage → TypesSoFar

@@ -4,7 +4,7 @@ use Rattle.std.specs.Borrow.{Bor}
 use Rattle.std.specs.declared.result.Result.{Result}
 use Rattle.wasm_validator_modules.specs.WasmValidatorTypes.declared.shown.Types as shown
 use Rattle.wasm_validator_modules.specs.WasmValidatorCore.declared.error.Error.{Error}
-use Rattle.wasm_validator_modules.specs.Standing.{Standing, after_reset}
+use Rattle.wasm_validator_modules.specs.ValidatorStages.{Standing, after_reset}
 use Rattle.wasm_validator_modules.specs.Verdict.{DecidesModule, EndsModule, StopsModule}
 
 -- the bytes that are lent

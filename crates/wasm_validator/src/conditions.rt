@@ -1,7 +1,7 @@
 //! A test of what the calls on a module ask of the list of types that they are given.
 
 ghost use Rattle.std.specs.Bool.{Decides};
-ghost use Rattle.wasm_validator_modules.specs.WasmValidatorCore.Ready.{AreHeld};
+ghost use Rattle.wasm_validator_modules.specs.WasmValidatorCore.OpenLists.{AreHeld};
 
 use std::alloc::Allocator;
 use wasm_validator_modules::{Module, TypeList};

@@ -3,7 +3,7 @@
 ghost use Rattle.std.specs.Prelude.{◌≡◌, true, IfOk, IfErr, OnErr};
 ghost use Rattle.std.specs.List.{All};
 ghost use Rattle.wasm_validator_modules.specs.Payloads.{HoldsTypes};
-ghost use Rattle.wasm_validator.specs.Standing.{may_reset};
+ghost use Rattle.wasm_validator.specs.ValidatorStages.{may_reset};
 ghost use Rattle.wasm_validator.specs.Lists.{DecidesEach, lent};
 ghost use Rattle.wasm_validator.specs.Headline.{Headline, types_held};
 ghost use Rattle.wasm_spec_rules.specs.FeatureFlags.{features_of};

@@ -18,15 +18,15 @@ use Rattle.wasm_readers_types.specs.declared.types.SubType.{SubType}
 use Rattle.wasm_readers_types.specs.SeenTypes.{sub_of, rec_of}
 use Rattle.wasm_validator_type_list.specs.WasmValidatorTypeGroups.declared.elements.RecGroupElements.{RecGroupElements}
 use Rattle.wasm_validator_type_list.specs.WasmValidatorTypeGroups.Elements.{ids_left}
-use Rattle.wasm_validator_type_list.specs.Listing.{Listing}
+use Rattle.wasm_validator_type_list.specs.ListViews.{Listing}
 use Rattle.wasm_validator_type_list.specs.DefTypes.{def_types}
 use Rattle.wasm_validator_canonical.specs.Answers.{AddsNothing, AddsIds, Denies}
 use Rattle.wasm_validator_canonical.specs.Groups.{closes, types_at, AreValid, with_written}
 use Rattle.wasm_validator_canonical.specs.Indices.{numbers, canonical_group, is_written_sub, number_in}
-use Rattle.wasm_validator_canonical.specs.Interned.{InternsUnder, InternsNone, InternsValid}
-use Rattle.wasm_validator_canonical.proofs.Canonical.{and_left, and_right}
+use Rattle.wasm_validator_canonical.specs.GroupInterning.{InternsUnder, InternsNone, InternsValid}
+use Rattle.wasm_validator_canonical.proofs.CanonicalTypes.{and_left, and_right}
 use Rattle.wasm_validator_canonical.proofs.NewIds.{numbers_below}
-use Rattle.wasm_validator_canonical.proofs.Written.{written_added, written_none}
+use Rattle.wasm_validator_canonical.proofs.WrittenGroups.{written_added, written_none}
 
 module _ {A : Type 0} (F : Features) (ids : List ℕ) (w : Rec UnpackedIndex) (closing : closes F (length ids) w ≡ true) where
   closing_added : (old new : Listing A) (g : List (SubType A)) (more : List ℕ) → old.is_canonical ≡ canonical F → new.is_canonical ≡ old.is_canonical

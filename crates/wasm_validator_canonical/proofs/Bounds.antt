@@ -8,7 +8,7 @@ use Rattle.wasm_spec.specs.Syntax.{Sub, Rec, map_comp, map_sub}
 use Rattle.wasm_spec.specs.References.{refs_option, refs_comp}
 use Rattle.wasm_spec.specs.Features.{Features}
 use Rattle.wasm_spec.specs.Closing.{is_in_bounds, are_closable}
-use Rattle.wasm_spec.proofs.Shifting.{refs_option-map, refs_comp-map}
+use Rattle.wasm_spec.proofs.ClosedGroups.{refs_option-map, refs_comp-map}
 use Rattle.wasm_readers_types.specs.WasmReadersValues.declared.indices.UnpackedIndex.{UnpackedIndex}
 use Rattle.wasm_readers_types.specs.WasmReadersValues.declared.indices.UnpackedIndex.TheVariants.{Module, RecGroup, Id}
 use Rattle.wasm_validator_canonical.specs.Groups.{closes}

@@ -2,18 +2,18 @@
 use Rattle.std.proofs.Common.{◌≡◌, refl, sym, ap, subst, ◌∙◌, ℕ, zero, suc, ◌+◌, ◌≤◌, ◌<◌, List, length, Option, Some, None, IfSome, All, arith}
 use Rattle.std.proofs.lemmas.List.Elements.{All-nil, All-cons}
 use Rattle.std.specs.Option.{option_and_then, SomeIff}
-use Rattle.wasm_spec.specs.Declared.{ancestor_at, IsDepth}
+use Rattle.wasm_spec.specs.SupertypeOrder.{ancestor_at, IsDepth}
 use Rattle.wasm_readers_types.specs.WasmReadersValues.declared.indices.CoreTypeId.{CoreTypeId}
 use Rattle.wasm_readers_types.specs.declared.types.SubType.{SubType}
-use Rattle.wasm_validator_type_list.specs.Declares.{declares}
+use Rattle.wasm_validator_type_list.specs.DeclarationsById.{declares}
 use Rattle.wasm_validator_type_list.specs.WasmValidatorTypeGroups.Elements.{numbers_from}
 use Rattle.wasm_validator_type_list.specs.WasmValidatorTypeGroups.Groups.{first_of}
-use Rattle.wasm_validator_type_list.specs.Listing.{Listing, types_in}
+use Rattle.wasm_validator_type_list.specs.ListViews.{Listing, types_in}
 use Rattle.wasm_validator_type_list.specs.Lookups.{IsSupertypeAt}
-use Rattle.wasm_validator_type_list.proofs.Declares.{supertype_read}
+use Rattle.wasm_validator_type_list.proofs.IdDeclarations.{supertype_read}
 use Rattle.wasm_validator_type_list.proofs.DefTypes.{first_of-within}
-use Rattle.wasm_validator_canonical.specs.Interned.{InternsUnder}
-use Rattle.wasm_validator_canonical.proofs.Interning.{there, first_of_next}
+use Rattle.wasm_validator_canonical.specs.GroupInterning.{InternsUnder}
+use Rattle.wasm_validator_canonical.proofs.InternedIds.{there, first_of_next}
 
 module _ {A : Type 0} where
   -- a type that extends nothing has no proper ancestor

@@ -11,28 +11,28 @@ use Rattle.std.proofs.lemmas.Bool.{cases_lt}
 use Rattle.std.proofs.lemmas.Bool.Decides.{Decides-eqb}
 use Rattle.std.proofs.lemmas.List.Elements.{All-nil, All-cons}
 use Rattle.std.proofs.lemmas.Option.{none-some, slice_get_within}
-use Rattle.wasm_spec.specs.Declared.{supertype_of, IsDepth}
+use Rattle.wasm_spec.specs.SupertypeOrder.{supertype_of, IsDepth}
 use Rattle.wasm_spec.specs.Features.{Features}
 use Rattle.wasm_spec.proofs.Depths.{depths_are_small}
 use Rattle.wasm_readers_types.specs.WasmReadersValues.declared.indices.CoreTypeId.{CoreTypeId}
 use Rattle.wasm_readers_types.specs.declared.types.SubType.{SubType}
 use Rattle.wasm_validator_type_list.specs.WasmValidatorTypeGroups.Elements.{numbers_from}
 use Rattle.wasm_validator_type_list.specs.WasmValidatorTypeGroups.Groups.{first_of}
-use Rattle.wasm_validator_type_list.specs.Declares.{declares}
+use Rattle.wasm_validator_type_list.specs.DeclarationsById.{declares}
 use Rattle.wasm_validator_type_list.specs.Depths.{depth_of, with_depth}
-use Rattle.wasm_validator_type_list.specs.Interned.{Interns}
-use Rattle.wasm_validator_type_list.specs.Listable.{AreListable}
+use Rattle.wasm_validator_type_list.specs.GroupInterning.{Interns}
+use Rattle.wasm_validator_type_list.specs.GroupOrder.{AreListable}
 use Rattle.wasm_validator_type_list.specs.DefTypes.{def_types}
-use Rattle.wasm_validator_type_list.specs.Listing.{Listing, with_depths}
+use Rattle.wasm_validator_type_list.specs.ListViews.{Listing, with_depths}
 use Rattle.wasm_validator_type_list.specs.Lookups.{IsSupertypeAt}
-use Rattle.wasm_validator_type_list.proofs.Declares.{supertype_read, descends}
+use Rattle.wasm_validator_type_list.proofs.IdDeclarations.{supertype_read, descends}
 use Rattle.wasm_validator_type_list.proofs.Depths.{found-put}
 use Rattle.wasm_validator_canonical.specs.Depths.{HasDepthAbove, KeepsDepth, StillKept, FitsByte}
 use Rattle.wasm_validator_canonical.specs.Groups.{AreValid}
-use Rattle.wasm_validator_canonical.specs.Interned.{InternsUnder}
-use Rattle.wasm_validator_canonical.proofs.Checked.{group_valid}
+use Rattle.wasm_validator_canonical.specs.GroupInterning.{InternsUnder}
+use Rattle.wasm_validator_canonical.proofs.CheckedGroups.{group_valid}
 use Rattle.wasm_validator_canonical.proofs.DepthsOfIds.{next_depth}
-use Rattle.wasm_validator_canonical.proofs.Interning.{there, first_of_next}
+use Rattle.wasm_validator_canonical.proofs.InternedIds.{there, first_of_next}
 
 -- what an answer says of a list, in other words
 pub then_ok : {X E P Q : Type 0} (r : Result X E) → (P → Q) → OnOk r P → OnOk r Q

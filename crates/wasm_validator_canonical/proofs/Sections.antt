@@ -13,17 +13,17 @@ use Rattle.wasm_spec.proofs.Closing.{slice_get-append_left}
 use Rattle.wasm_spec_rules.proofs.Tests.{map_some, then_some}
 use Rattle.wasm_readers_types.specs.WasmReadersValues.declared.indices.TheConstants.{MAX_IDS}
 use Rattle.wasm_validator_type_list.specs.WasmValidatorTypeGroups.Elements.{numbers_from}
-use Rattle.wasm_validator_type_list.proofs.WasmValidatorTypeGroups.Counting.{length_numbers}
-use Rattle.wasm_validator_type_list.proofs.Grouped.{all-left, all-right}
+use Rattle.wasm_validator_type_list.proofs.WasmValidatorTypeGroups.RemainingNumbers.{length_numbers}
+use Rattle.wasm_validator_type_list.proofs.GroupMatching.{all-left, all-right}
 use Rattle.wasm_validator_canonical.specs.Groups.{placed, AreValid, with_written}
 use Rattle.wasm_validator_canonical.specs.Sections.{written, with_all_written, StandsFor, AddedSectionsAreValid, ValidSectionsAreAdded, OneIdForOneType}
-use Rattle.wasm_validator_canonical.specs.Apart.{AreApart}
-use Rattle.wasm_validator_canonical.specs.Counted.{with_types, AreWith, AddedTypesAreCounted, CountedSectionsAreAdded}
-use Rattle.wasm_validator_canonical.proofs.Apart.{held_apart, closed_members}
-use Rattle.wasm_validator_canonical.proofs.Counted.{held_counted, with_append, with_none, with_split, with_grows}
-use Rattle.wasm_spec.proofs.Accepted.{length-positions}
-use Rattle.wasm_validator_canonical.proofs.Kept.{held_front, held_at_most, all_held}
-use Rattle.wasm_validator_canonical.proofs.StoodFor.{Stand, held_with, held_stand, valid_placed, zip_length}
+use Rattle.wasm_validator_canonical.specs.DistinctTypes.{AreApart}
+use Rattle.wasm_validator_canonical.specs.TypeTotals.{with_types, AreWith, AddedTypesAreCounted, CountedSectionsAreAdded}
+use Rattle.wasm_validator_canonical.proofs.DistinctLists.{held_apart, closed_members}
+use Rattle.wasm_validator_canonical.proofs.TypeCounts.{held_counted, with_append, with_none, with_split, with_grows}
+use Rattle.wasm_spec.proofs.AcceptedSections.{length-positions}
+use Rattle.wasm_validator_canonical.proofs.KeptTypes.{held_front, held_at_most, all_held}
+use Rattle.wasm_validator_canonical.proofs.IdMeanings.{Stand, held_with, held_stand, valid_placed, zip_length}
 use Rattle.wasm_validator_canonical.proofs.Steps.{Fits, fits_added, added_fits, all_written_front, all_written_own}
 
 same_behind : {X : Type 0} (xs ys zs : List X) → xs ++ ys ≡ xs ++ zs → ys ≡ zs

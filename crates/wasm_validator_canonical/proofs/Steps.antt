@@ -17,11 +17,11 @@ use Rattle.wasm_validator_type_list.specs.WasmValidatorTypeGroups.Elements.{numb
 use Rattle.wasm_validator_canonical.specs.Groups.{types_at, placed, held, AreValid, with_an_id_each, with_written}
 use Rattle.wasm_validator_canonical.specs.Indices.{is_written, is_written_sub, number_in}
 use Rattle.wasm_validator_canonical.specs.Sections.{written, with_all_written}
-use Rattle.wasm_validator_canonical.proofs.Held.{positions-map}
-use Rattle.wasm_spec.proofs.Accepted.{length-positions}
-use Rattle.wasm_validator_canonical.proofs.Kept.{AreBelow, length_held, held_front, new_ids, held_known}
-use Rattle.wasm_validator_canonical.proofs.StoodFor.{Stand, held_with, same_closed, closed_alone, placed_valid, placed_members, standing_valid}
-use Rattle.wasm_spec.proofs.Shifting.{refs_sub-map}
+use Rattle.wasm_validator_canonical.proofs.InternedTypes.{positions-map}
+use Rattle.wasm_spec.proofs.AcceptedSections.{length-positions}
+use Rattle.wasm_validator_canonical.proofs.KeptTypes.{AreBelow, length_held, held_front, new_ids, held_known}
+use Rattle.wasm_validator_canonical.proofs.IdMeanings.{Stand, held_with, same_closed, closed_alone, placed_valid, placed_members, standing_valid}
+use Rattle.wasm_spec.proofs.ClosedGroups.{refs_sub-map}
 
 -- a group as it is written
 indices_written : (us : List ℕ) → list_all is_written (map written us) ≡ true

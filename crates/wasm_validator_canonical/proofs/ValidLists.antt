@@ -6,10 +6,10 @@ use Rattle.wasm_spec.specs.Features.{Features}
 use Rattle.wasm_spec.specs.GroupRules.{IsValidType}
 use Rattle.wasm_spec.specs.Trees.{declared}
 use Rattle.wasm_spec.specs.TypeLaws.{HasNoRepetition}
-use Rattle.wasm_validator_type_list.specs.Declares.{declares}
+use Rattle.wasm_validator_type_list.specs.DeclarationsById.{declares}
 use Rattle.wasm_validator_type_list.specs.DefTypes.{types_of_list}
-use Rattle.wasm_validator_type_list.specs.Listable.{AreListable}
-use Rattle.wasm_validator_type_list.specs.Listing.{Listing, types_in}
+use Rattle.wasm_validator_type_list.specs.GroupOrder.{AreListable}
+use Rattle.wasm_validator_type_list.specs.ListViews.{Listing, types_in}
 use Rattle.wasm_validator_type_list.proofs.DefTypes.{length-def_types}
 use Rattle.wasm_validator_type_checks.proofs.IdsAndTypes.{ids_keep_rules_as_types}
 use Rattle.wasm_validator_canonical.specs.Groups.{AreValid}

@@ -2,9 +2,9 @@
 -- Validation, Matching (Defined Types).
 use Rattle.std.specs.Prelude.{ℕ, ◌≡◌, ◌<◌, IsSome}
 use Rattle.std.specs.declared.option.Option.TheVariants.{Some}
-use Rattle.wasm_spec.specs.Declared.{supertype_of, IsDepth}
-use Rattle.wasm_validator_type_list.specs.Listing.{Listing}
-use Rattle.wasm_validator_type_list.specs.Declares.{declares}
+use Rattle.wasm_spec.specs.SupertypeOrder.{supertype_of, IsDepth}
+use Rattle.wasm_validator_type_list.specs.ListViews.{Listing}
+use Rattle.wasm_validator_type_list.specs.DeclarationsById.{declares}
 use Rattle.wasm_validator_type_list.specs.Depths.{depth_of}
 
 module _ {A : Type 0} where

@@ -12,7 +12,7 @@ pub use Rattle.wasm_spec_rules.specs.IndexSpaces.{nowhere}
 use Rattle.wasm_readers_types.specs.WasmReadersValues.declared.indices.UnpackedIndex.{UnpackedIndex}
 use Rattle.wasm_readers_types.specs.WasmReadersValues.declared.indices.TheConstants.{MAX_IDS}
 use Rattle.wasm_validator_type_list.specs.WasmValidatorTypeGroups.Elements.{numbers_from}
-use Rattle.wasm_validator_canonical.specs.Found.{place_of}
+use Rattle.wasm_validator_canonical.specs.ListPlaces.{place_of}
 use Rattle.wasm_validator_canonical.specs.Indices.{is_written_sub, number_in}
 
 -- a group that is written without `rec` has one type

@@ -6,7 +6,7 @@ use Rattle.wasm_readers_errors.specs.declared.error.Refusal.{Refusal}
 use Rattle.wasm_readers_types.specs.WasmReadersValues.declared.indices.CoreTypeId.{CoreTypeId}
 use Rattle.wasm_readers_types.specs.WasmReadersValues.declared.indices.UnpackedIndex.{UnpackedIndex}
 use Rattle.wasm_readers_types.specs.WasmReadersValues.declared.indices.UnpackedIndex.TheVariants.{Module, RecGroup, Id}
-use Rattle.wasm_validator_type_list.specs.Refused.{not_in_group}
+use Rattle.wasm_validator_type_list.specs.ListRefusals.{not_in_group}
 use Rattle.wasm_validator_canonical.specs.Refusals.{unknown_type}
 
 -- An id leads to itself, an index to the id of the module's type, and a position to that of the group, whose ids have the numbers from start to

@@ -2,11 +2,11 @@
 
 ghost use Rattle.std.specs.Prelude.{◌≡◌, ◌<◌, ℕ, length, IfSome, IsSome, IsTrue, OnOk};
 ghost use Rattle.std.specs.List.{All};
-ghost use Rattle.wasm_spec.specs.Declared.{IsDepth};
-ghost use Rattle.wasm_validator_type_list.specs.Declares.{declares};
+ghost use Rattle.wasm_spec.specs.SupertypeOrder.{IsDepth};
+ghost use Rattle.wasm_validator_type_list.specs.DeclarationsById.{declares};
 ghost use Rattle.wasm_validator_type_list.specs.WasmValidatorTypeGroups.Elements.{ids_left};
-ghost use Rattle.wasm_validator_type_list.specs.Listing.{types_in};
-ghost use Rattle.wasm_validator_type_list.specs.Listable.{AreListable};
+ghost use Rattle.wasm_validator_type_list.specs.ListViews.{types_in};
+ghost use Rattle.wasm_validator_type_list.specs.GroupOrder.{AreListable};
 ghost use Rattle.wasm_validator_type_list.specs.Depths.{depth_of};
 ghost use Rattle.wasm_validator_canonical.specs.Depths.{HasDepthAbove, KeepsDepth, StillKept, FitsByte};
 

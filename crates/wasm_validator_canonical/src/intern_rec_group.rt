@@ -16,19 +16,19 @@ ghost use Rattle.wasm_readers_types.specs.WasmReadersValues.declared.indices.The
 ghost use Rattle.wasm_readers_types.specs.WasmReadersValues.declared.indices.CoreTypeId.{CoreTypeId};
 ghost use Rattle.wasm_readers_types.specs.SeenTypes.{sub_of, rec_of};
 ghost use Rattle.wasm_validator_type_list.specs.WasmValidatorTypeGroups.Elements.{ids_left};
-ghost use Rattle.wasm_validator_type_list.specs.Listable.{IsListable, AreListable};
-ghost use Rattle.wasm_validator_type_list.specs.Listing.{types_in};
-ghost use Rattle.wasm_validator_type_list.specs.Refused.{too_many_types};
+ghost use Rattle.wasm_validator_type_list.specs.GroupOrder.{IsListable, AreListable};
+ghost use Rattle.wasm_validator_type_list.specs.ListViews.{types_in};
+ghost use Rattle.wasm_validator_type_list.specs.ListRefusals.{too_many_types};
 ghost use Rattle.wasm_validator_type_list.specs.DefTypes.{types_of_list};
 ghost use Rattle.wasm_validator_type_checks.specs.Rules.{IsValidGroupAt};
-ghost use Rattle.wasm_validator_type_checks.specs.Told.{ToldOfGroup};
+ghost use Rattle.wasm_validator_type_checks.specs.TypeRefusals.{ToldOfGroup};
 ghost use Rattle.wasm_validator_canonical.specs.Indices.{numbers, canonical_group, extend_at_most_one};
 ghost use Rattle.wasm_validator_canonical.specs.Groups.{has_form, allows_written, closes, AreValid};
 ghost use Rattle.wasm_validator_canonical.specs.Answers.{Says, IsRefusal, IsAt};
 ghost use Rattle.wasm_validator_canonical.specs.Refusals.{rec_without_gc, extends_many};
 ghost use Rattle.wasm_validator_canonical.specs.Depths.{KeepsDepth, StillKept};
-ghost use Rattle.wasm_validator_canonical.specs.Interned.{next_ids, AddsWritten, KeepsGroups, InternsValid};
-ghost use Rattle.wasm_validator_canonical.specs.Told.{counted_first, FitsFirst, IfContent, ToldOfWritten, ToldOfInterned, ToldOfAdded};
+ghost use Rattle.wasm_validator_canonical.specs.GroupInterning.{next_ids, AddsWritten, KeepsGroups, InternsValid};
+ghost use Rattle.wasm_validator_canonical.specs.GroupFaults.{counted_first, FitsFirst, IfContent, ToldOfWritten, ToldOfInterned, ToldOfAdded};
 
 use crate::depths::keep_depths;
 use crate::type_canonicalizer::{TypeCanonicalizer, extend_at_most_one};
@@ -118,7 +118,7 @@ fn counted_first(is_canonical: bool, held: usize) -> usize
 /// out of bounds, and where a rule doesn't hold; and where memory is. Where equal types are one the
 /// ids are asked for once the group is known to be new, and else first. The list then still begins
 /// with all that it had, and may have the group behind it: it is only to be dropped.
-#[tactic(auto, using(crate::proofs::Longer::lists_begin))]
+#[tactic(auto, using(crate::proofs::ListFronts::lists_begin))]
 pub fn canonicalize_and_intern_rec_group<A: Allocator + Copy>(
     features: WasmFeatures,
     alloc: A,
@@ -199,7 +199,7 @@ fn check_if_new<A: Allocator + Copy>(
 }
 
 /// Interns the group, checks its types where it is new, and says their ids.
-#[tactic(auto, using(crate::proofs::Longer::lists_begin))]
+#[tactic(auto, using(crate::proofs::ListFronts::lists_begin))]
 fn intern<A: Allocator + Copy>(
     features: WasmFeatures,
     types: &mut TypeList<A>,

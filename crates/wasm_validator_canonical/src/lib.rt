@@ -6,10 +6,10 @@
 #![tactic(auto)]
 
 ghost use Rattle.wasm_validator_canonical.specs.Sections.{AddedSectionsAreValid, ValidSectionsAreAdded, OneIdForOneType};
-ghost use Rattle.wasm_validator_canonical.specs.Counted.{CountedSectionsAreAdded, AddedTypesAreCounted};
+ghost use Rattle.wasm_validator_canonical.specs.TypeTotals.{CountedSectionsAreAdded, AddedTypesAreCounted};
 ghost use Rattle.wasm_validator_canonical.specs.Arities.{IdsKeepArities};
 ghost use Rattle.wasm_validator_type_list.specs.DefTypes.{types_of_list};
-ghost use Rattle.wasm_validator_canonical.specs.Apart.{AreApart, ApartTypesAreDistinct, ListedTypesAreApart, AddedTypesStayApart};
+ghost use Rattle.wasm_validator_canonical.specs.DistinctTypes.{AreApart, ApartTypesAreDistinct, ListedTypesAreApart, AddedTypesStayApart};
 
 use std::alloc::Allocator;
 use wasm_validator_type_list::TypeList;

@@ -30,7 +30,7 @@ ghost use Rattle.wasm_readers_types.specs.WasmReadersValues.SeenValues.{index_of
 ghost use Rattle.wasm_readers_types.specs.SeenTypes.{func_of, comp_of};
 ghost use Rattle.wasm_validator_canonical.specs.Answers.{Says, IsAt};
 ghost use Rattle.wasm_validator_canonical.specs.Indices.{has_no_index};
-ghost use Rattle.wasm_validator_canonical.specs.Told.{IfContent, ToldOfIndexBy};
+ghost use Rattle.wasm_validator_canonical.specs.GroupFaults.{IfContent, ToldOfIndexBy};
 
 use std::alloc::{AllocError, Allocator};
 use wasm_readers_errors::{Error, Fault, Refusal, WasmFeatures};
@@ -195,7 +195,7 @@ impl<'a> TypeCanonicalizer<'a> {
     }
 
     /// Value types, each with its index as the list has it, in as much memory as they take.
-    #[tactic(auto, using(crate::proofs::Canonical::values_laws))]
+    #[tactic(auto, using(crate::proofs::CanonicalTypes::values_laws))]
     fn values<A: Allocator + Copy>(
         &self,
         alloc: A,
@@ -245,7 +245,7 @@ impl<'a> TypeCanonicalizer<'a> {
     }
 
     /// A function type with its indices as the list has them.
-    #[tactic(auto, using(crate::proofs::Canonical::known_laws))]
+    #[tactic(auto, using(crate::proofs::CanonicalTypes::known_laws))]
     fn function<A: Allocator + Copy>(&self, alloc: A, ty: FuncType<A>) -> Result<FuncType<A>, Error>
         requires { IsSmall self.now }
         ensures value { IfOk result (λ f. func_of f
@@ -265,7 +265,7 @@ impl<'a> TypeCanonicalizer<'a> {
     }
 
     /// A composite type with its indices as the list has them.
-    #[tactic(auto, using(crate::proofs::Canonical::known_laws))]
+    #[tactic(auto, using(crate::proofs::CanonicalTypes::known_laws))]
     fn composite<A: Allocator + Copy>(
         &self,
         alloc: A,

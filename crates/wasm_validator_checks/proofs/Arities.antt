@@ -8,13 +8,13 @@ use Rattle.wasm_validator_resources.specs.WasmSpecRules.IndexSpaces.{signature, 
 use Rattle.wasm_readers_types.specs.WasmReadersValues.declared.indices.UnpackedIndex.{UnpackedIndex}
 use Rattle.wasm_readers_types.specs.declared.types.SubType.{SubType}
 use Rattle.wasm_readers_types.specs.SeenTypes.{sub_of}
-use Rattle.wasm_validator_type_list.specs.Declares.{declares, sub_by_ids, subs_by_ids}
+use Rattle.wasm_validator_type_list.specs.DeclarationsById.{declares, sub_by_ids, subs_by_ids}
 use Rattle.wasm_validator_type_list.specs.WasmValidatorTypeGroups.Groups.{all_in}
 use Rattle.wasm_validator_type_list.specs.Laws.{type_of_id}
-use Rattle.wasm_validator_type_list.specs.Listable.{AreListable}
+use Rattle.wasm_validator_type_list.specs.GroupOrder.{AreListable}
 use Rattle.wasm_validator_type_list.specs.Lookups.{leads_to}
 use Rattle.wasm_validator_type_list.specs.DefTypes.{def_types}
-use Rattle.wasm_validator_type_list.proofs.Joined.{types_declare_what_ids_declare}
+use Rattle.wasm_validator_type_list.proofs.IdsAndTypes.{types_declare_what_ids_declare}
 use Rattle.wasm_validator_type_list.proofs.DefTypes.{length-def_types}
 use Rattle.wasm_validator_canonical.specs.Arities.{arity, type_arity, arity_at}
 use Rattle.wasm_validator_checks.specs.Arities.{written_arity, written_arity_at}

@@ -1,6 +1,6 @@
 pub use Rattle.wasm_validator_canonical.proofs as WasmValidatorCanonical
-pub mod Listed
-pub mod Kept
-pub mod Decided
+pub mod ListedTypes
+pub mod ListedArities
+pub mod ItemTests
 pub mod Arities
-pub mod Checked
+pub mod AcceptedItems

@@ -1,6 +1,6 @@
 -- What a refusal of an item says.
 use Rattle.std.specs.Prelude.{ℕ, ◌≡◌, false, None, IfSome}
-use Rattle.wasm_readers.specs.WasmReadersErrors.WasmReadersFeatures.On.{has_flag}
+use Rattle.wasm_readers.specs.WasmReadersErrors.WasmReadersFeatures.ProposalFlags.{has_flag}
 use Rattle.wasm_readers.specs.WasmReadersErrors.declared.error.Refusal.{Refusal}
 use Rattle.wasm_readers.specs.WasmReadersErrors.WasmReadersFeatures.declared.features.WasmFeatures.{WasmFeatures}
 

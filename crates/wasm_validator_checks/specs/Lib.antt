@@ -5,9 +5,9 @@ pub mod Answers
 pub mod ModuleTypes
 pub mod Items
 pub mod Laws
-pub mod Told
+pub mod ItemRefusals
 pub mod Names
-pub mod Held
-pub mod Listed
+pub mod ModuleTypeIds
+pub mod ListedExterns
 pub mod Sizes
 pub mod Arities

@@ -15,11 +15,11 @@ ghost use Rattle.wasm_validator_checks.specs.ModuleTypes.{AreKnown, module_types
 ghost use Rattle.wasm_validator_checks.specs.Items.{is_in_range, is_ref_in_range, is_val_in_range, is_valid_extern};
 ghost use Rattle.wasm_validator_types.specs.Entities.{entity_of, IsAmong};
 ghost use Rattle.wasm_validator_type_list.specs.DefTypes.{types_of_list};
-ghost use Rattle.wasm_validator_checks.specs.Held.{AreHeld, AreSmall, IsTyped};
-ghost use Rattle.wasm_validator_checks.specs.Listed.{entity};
+ghost use Rattle.wasm_validator_checks.specs.ModuleTypeIds.{AreHeld, AreSmall, IsTyped};
+ghost use Rattle.wasm_validator_checks.specs.ListedExterns.{entity};
 ghost use Rattle.wasm_validator_checks.specs.Sizes.{entity_size, grown};
 ghost use Rattle.wasm_readers.specs.WasmReadersErrors.Refusals.{refused};
-ghost use Rattle.wasm_validator_checks.specs.Told.{told_of_extern};
+ghost use Rattle.wasm_validator_checks.specs.ItemRefusals.{told_of_extern};
 
 use crate::check_type_ref;
 use crate::signatures::function_arity;

@@ -4,7 +4,7 @@ ghost use Rattle.std.specs.Prelude.{◌≡◌, is_ok, IfErr, nat_le};
 ghost use Rattle.wasm_validator_checks.specs.Answers.{IsPlainRefusalAt};
 ghost use Rattle.wasm_validator_checks.specs.Items.{are_ordered, are_at_most};
 ghost use Rattle.wasm_readers.specs.WasmReadersErrors.Refusals.{refused};
-ghost use Rattle.wasm_validator_checks.specs.Told.{told_of_limits, told_of_sizes};
+ghost use Rattle.wasm_validator_checks.specs.ItemRefusals.{told_of_limits, told_of_sizes};
 
 use wasm_readers::readers_errors::{Fault, ItemRule, Refusal, hold};
 

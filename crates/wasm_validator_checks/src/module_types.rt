@@ -11,7 +11,7 @@ ghost use Rattle.wasm_validator_canonical.specs.Indices.{number_in};
 ghost use Rattle.wasm_validator_checks.specs.ModuleTypes.{AreKnown, IsSubTypeAt, IsFuncTypeAt, module_types, arity_at, func_arity};
 ghost use Rattle.wasm_validator_checks.specs.Items.{is_in_range, is_ref_in_range, is_val_in_range, is_shared_ref_over, is_shared_val_over, is_function};
 ghost use Rattle.wasm_readers.specs.WasmReadersErrors.Refusals.{refused};
-ghost use Rattle.wasm_validator_checks.specs.Told.{told_of_function, told_of_heap_index, told_of_index, told_of_val_index};
+ghost use Rattle.wasm_validator_checks.specs.ItemRefusals.{told_of_function, told_of_heap_index, told_of_index, told_of_val_index};
 
 use std::alloc::Allocator;
 use wasm_readers::readers_errors::{Fault, Refusal};

@@ -3,15 +3,15 @@ use Rattle.std.proofs.Common.{◌≡◌, ◌≤◌, ◌<◌, ◌∙◌, refl, sy
 use Rattle.std.specs.Option.{option_and_then}
 use Rattle.wasm_spec.specs.MatchingTests.{World}
 use Rattle.wasm_operators.specs.Instructions.{Instruction, instruction_at}
-use Rattle.wasm_operator_validator.specs.WasmOperatorSteps.Bodies.{Surroundings}
-use Rattle.wasm_operator_validator.specs.WasmOperatorSteps.Machine.{State}
-use Rattle.wasm_operator_validator.specs.WasmOperatorSteps.Steps.{is_finished}
-use Rattle.wasm_operator_validator.specs.WasmOperatorSteps.Served.{served}
+use Rattle.wasm_typing_validator.specs.WasmSpecSteps.Bodies.{Surroundings}
+use Rattle.wasm_typing_validator.specs.WasmSpecSteps.Machine.{State}
+use Rattle.wasm_typing_validator.specs.WasmSpecSteps.Steps.{is_finished}
+use Rattle.wasm_typing_validator.specs.WasmSpecSteps.ServedInstructions.{served}
 use Rattle.wasm_validator_references.specs.WasmSpecValidity.Expressions.{functions_named}
 use Rattle.wasm_validator_references.specs.Notes.{noting}
-use Rattle.wasm_validator_references.proofs.Noting.{noting_more}
-use Rattle.wasm_operator_validator.proofs.WasmOperatorArity.Serving.{not_constant}
-use Rattle.wasm_validator_constants.proofs.Stepping.{no_constant}
+use Rattle.wasm_validator_references.proofs.FunctionNotes.{noting_more}
+use Rattle.wasm_typing_validator.proofs.WasmTypingArity.UnservedOperators.{not_constant}
+use Rattle.wasm_validator_constants.proofs.InstructionSteps.{no_constant}
 use Rattle.wasm_validator_constants.specs.Constants.{constant_step, typed_from, constant_from, named_from, constant_names}
 
 module _ {R : Type 0} (W : World R) (B : Surroundings R) (imported : ℕ) where

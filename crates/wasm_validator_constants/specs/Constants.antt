@@ -4,10 +4,10 @@ use Rattle.std.specs.Prelude.{◌≡◌, ℕ, zero, suc, if◌then◌else◌, Li
 use Rattle.std.specs.Option.{option_and_then}
 use Rattle.wasm_spec.specs.MatchingTests.{World}
 use Rattle.wasm_operators.specs.Instructions.{Instruction, instruction_at}
-use Rattle.wasm_operator_validator.specs.WasmOperatorSteps.Bodies.{Surroundings}
-use Rattle.wasm_operator_validator.specs.WasmOperatorSteps.ConstantRules.{is_allowed, IsConstantExpression}
-use Rattle.wasm_operator_validator.specs.WasmOperatorSteps.Machine.{State}
-use Rattle.wasm_operator_validator.specs.WasmOperatorSteps.Steps.{step_in, is_finished}
+use Rattle.wasm_typing_validator.specs.WasmSpecSteps.Bodies.{Surroundings}
+use Rattle.wasm_typing_validator.specs.WasmSpecSteps.ConstantRules.{is_allowed, IsConstantExpression}
+use Rattle.wasm_typing_validator.specs.WasmSpecSteps.Machine.{State}
+use Rattle.wasm_typing_validator.specs.WasmSpecSteps.Steps.{step_in, is_finished}
 use Rattle.wasm_validator_references.specs.WasmSpecValidity.Expressions.{functions_named}
 
 module _ {R : Type 0} (W : World R) (B : Surroundings R) (imported : ℕ) where

@@ -11,10 +11,10 @@ use Rattle.wasm_validator_resources.specs.WasmSpecRules.Contexts.{Context}
 use Rattle.wasm_validator_resources.specs.WasmReadersTypes.WasmReadersValues.declared.indices.UnpackedIndex.{UnpackedIndex}
 use Rattle.wasm_operators.specs.Control.{value_block, end_}
 use Rattle.wasm_operators.specs.Instructions.{control, instruction_at}
-use Rattle.wasm_operator_validator.specs.WasmOperatorSteps.Bodies.{Surroundings}
-use Rattle.wasm_operator_validator.specs.WasmOperatorSteps.ConstantRules.{IsConstantExpression}
-use Rattle.wasm_operator_validator.specs.WasmOperatorSteps.Machine.{State}
-use Rattle.wasm_operator_validator.specs.WasmOperatorSteps.Steps.{start}
+use Rattle.wasm_typing_validator.specs.WasmSpecSteps.Bodies.{Surroundings}
+use Rattle.wasm_typing_validator.specs.WasmSpecSteps.ConstantRules.{IsConstantExpression}
+use Rattle.wasm_typing_validator.specs.WasmSpecSteps.Machine.{State}
+use Rattle.wasm_typing_validator.specs.WasmSpecSteps.Steps.{start}
 use Rattle.wasm_validator_resources.specs.Answers.{world}
 
 -- The bytes begin with null of the heap type that this byte stands for alone, and the end of an expression.

@@ -1,7 +1,7 @@
 pub use Rattle.wasm_validator_references.specs as WasmValidatorReferences
-pub use Rattle.wasm_operator_validator.specs.WasmOperatorStacks as WasmOperatorStacks
-pub use Rattle.wasm_operator_validator.specs.Typed
-pub use Rattle.wasm_operator_validator.specs.Checked
-pub use Rattle.wasm_operator_validator.specs.declared.validator.OperatorValidator
+pub use Rattle.wasm_typing_validator.specs.WasmTypingStacks as WasmTypingStacks
+pub use Rattle.wasm_typing_validator.specs.BodyTyping
+pub use Rattle.wasm_typing_validator.specs.TypedInstructions
+pub use Rattle.wasm_typing_validator.specs.declared.validator.OperatorValidator
 pub mod Constants
 pub mod Items

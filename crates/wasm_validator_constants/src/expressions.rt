@@ -6,22 +6,22 @@ ghost use Rattle.wasm_readers.specs.WasmReadersBytes.Reader.{SameInput, position
 ghost use Rattle.wasm_operators.specs.Maps.{map_instruction};
 ghost use Rattle.wasm_operators.specs.SeenOperators.{operator_of};
 ghost use Rattle.wasm_validator_resources.specs.Answers.{world, written_index};
-ghost use Rattle.wasm_operator_validator.specs.WasmOperatorStacks.Seen.{Kept};
-ghost use Rattle.wasm_operator_validator.specs.Stepped.{IsWrittenInstruction};
-ghost use Rattle.wasm_operator_validator.specs.Typed.{typed_state};
+ghost use Rattle.wasm_typing_validator.specs.WasmTypingStacks.BodyStacks.{Kept};
+ghost use Rattle.wasm_typing_validator.specs.StackSteps.{IsWrittenInstruction};
+ghost use Rattle.wasm_typing_validator.specs.BodyTyping.{typed_state};
 ghost use Rattle.wasm_validator_references.specs.WasmSpecValidity.Expressions.{functions_named};
 ghost use Rattle.wasm_validator_references.specs.Notes.{noting};
 ghost use Rattle.wasm_validator_constants.specs.Constants.{constant_step, constant_from, constant_names};
-ghost use Rattle.wasm_operator_validator.specs.Checked.{within, IsRefusedAt, StandsIn, TookAt, ReadsTo};
+ghost use Rattle.wasm_typing_validator.specs.TypedInstructions.{within, IsRefusedAt, StandsIn, TookAt, ReadsTo};
 
 use crate::operators::{gated_constant, is_constant, reads_constants};
 use bitflags::Flags;
 use std::alloc::{AllocError, Allocator};
-use wasm_operator_validator::{OperatorValidator, read_served};
 use wasm_operators::operators_plain::VariableOperator;
 use wasm_operators::{Operator, ReferenceOperator};
 use wasm_readers::BinaryReader;
 use wasm_readers::readers_errors::{Error, Fault, OperatorRule, Refusal, WasmFeatures};
+use wasm_typing_validator::{OperatorValidator, read_served};
 use wasm_validator_references::NotesFunctions;
 use wasm_validator_resources::WasmModuleResources;
 

@@ -4,7 +4,7 @@ ghost use Rattle.std.specs.Prelude.{◌≡◌, ◌≤◌, [], ◌∷◌, Some, O
 ghost use Rattle.wasm_operators.specs.Control.{end_};
 ghost use Rattle.wasm_operators.specs.References.{ref_func};
 ghost use Rattle.wasm_operators.specs.Instructions.{control, reference, instruction_at};
-ghost use Rattle.wasm_operator_validator.specs.WasmOperatorSteps.Sequences.{Are};
+ghost use Rattle.wasm_typing_validator.specs.WasmSpecSteps.Sequences.{Are};
 ghost use Rattle.wasm_readers.specs.WasmReadersBytes.Reader.{SameInput, position_in, rest};
 ghost use Rattle.wasm_validator_constants.specs.Items.{IsNull};
 
@@ -12,7 +12,7 @@ use wasm_readers::BinaryReader;
 
 /// Goes past an `end`, if it is next. Else the reader may stand further on.
 #[inline(always)]
-#[tactic(auto, using(crate::proofs::ItemsWritten::written))]
+#[tactic(auto, using(crate::proofs::ItemBytes::written))]
 pub fn next_end(reader: &mut BinaryReader<'_>) -> Option<()>
     ensures same { SameInput reader.old reader.new }
     ensures onward { OnSome result (position_in reader.old ≤ position_in reader.new) }
@@ -29,7 +29,7 @@ pub fn next_end(reader: &mut BinaryReader<'_>) -> Option<()>
 /// Goes past a reference to a function and the `end` behind it, if these are next, and gives the
 /// function's index. Else the reader may stand further on.
 #[inline(always)]
-#[tactic(auto, using(crate::proofs::ItemsWritten::written))]
+#[tactic(auto, using(crate::proofs::ItemBytes::written))]
 pub(crate) fn next_function(reader: &mut BinaryReader<'_>) -> Option<u32>
     ensures same { SameInput reader.old reader.new }
     ensures onward { OnSome result (position_in reader.old ≤ position_in reader.new) }
@@ -47,7 +47,7 @@ pub(crate) fn next_function(reader: &mut BinaryReader<'_>) -> Option<u32>
 /// Goes past a null whose heap type is one byte and the `end` behind it, if these are next, and gives
 /// the byte. Else the reader may stand further on.
 #[inline(always)]
-#[tactic(auto, using(crate::proofs::ItemsWritten::written))]
+#[tactic(auto, using(crate::proofs::ItemBytes::written))]
 pub(crate) fn next_null(reader: &mut BinaryReader<'_>) -> Option<u8>
     ensures same { SameInput reader.old reader.new }
     ensures onward { OnSome result (position_in reader.old ≤ position_in reader.new) }

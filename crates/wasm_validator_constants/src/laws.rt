@@ -2,7 +2,7 @@
 
 ghost use Rattle.std.specs.Prelude.{ℕ};
 ghost use Rattle.wasm_spec.specs.MatchingTests.{World};
-ghost use Rattle.wasm_operator_validator.specs.WasmOperatorSteps.Bodies.{Surroundings};
+ghost use Rattle.wasm_typing_validator.specs.WasmSpecSteps.Bodies.{Surroundings};
 ghost use Rattle.wasm_validator_constants.specs.Constants.{FindsConstants, ConstantsAreFound};
 
 /// What is read and typed operator by operator, up to the end of the outermost frame, is a list of

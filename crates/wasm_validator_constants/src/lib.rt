@@ -18,7 +18,7 @@ pub use operators::{is_constant, reads_constants};
 pub use references_alone::{KnownReferences, pass_reference};
 
 /// What constant expressions are validated by.
-pub use wasm_operator_validator::{OperatorValidator, OperatorValidatorAllocations};
+pub use wasm_typing_validator::{OperatorValidator, OperatorValidatorAllocations};
 
 /// Passed on from `wasm_validator_references`.
 pub mod references {

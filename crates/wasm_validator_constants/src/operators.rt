@@ -4,9 +4,9 @@ ghost use Rattle.std.specs.Prelude.{◌≡◌, slice_get};
 ghost use Rattle.wasm_validator_resources.specs.WasmSpecRules.FeatureFlags.{features_of};
 ghost use Rattle.wasm_operators.specs.Maps.{map_instruction};
 ghost use Rattle.wasm_operators.specs.SeenOperators.{operator_of};
-ghost use Rattle.wasm_operator_validator.specs.WasmOperatorSteps.ConstantExpressions.{is_extended, makes_structure, makes_array, is_constant_conversion, is_constant};
+ghost use Rattle.wasm_typing_validator.specs.WasmSpecSteps.ConstantExpressions.{is_extended, makes_structure, makes_array, is_constant_conversion, is_constant};
 ghost use Rattle.wasm_validator_resources.specs.Answers.{written_index};
-ghost use Rattle.wasm_operator_validator.specs.WasmOperatorSteps.ConstantRules.{may_be_read, is_readable};
+ghost use Rattle.wasm_typing_validator.specs.WasmSpecSteps.ConstantRules.{may_be_read, is_readable};
 
 use bitflags::Flags;
 use wasm_operators::operators_plain::{

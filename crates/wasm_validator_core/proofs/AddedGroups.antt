@@ -13,10 +13,10 @@ use Rattle.wasm_readers_errors.specs.WasmReadersFeatures.declared.features.WasmF
 use Rattle.wasm_readers_errors.specs.declared.error.Refusal.{Refusal}
 use Rattle.wasm_readers_errors.specs.declared.error.Error as below
 use Rattle.wasm_readers_errors.specs.declared.error.Error.TheVariants as read
-use Rattle.wasm_validator_checks.specs.WasmValidatorTypeList.Listing.{Listing}
+use Rattle.wasm_validator_checks.specs.WasmValidatorTypeList.ListViews.{Listing}
 use Rattle.wasm_validator_checks.specs.WasmValidatorCanonical.Answers.{AddsNothing}
 use Rattle.wasm_validator_checks.specs.WasmValidatorCanonical.Answers as canonical
-use Rattle.wasm_validator_checks.specs.WasmValidatorCanonical.Told as told
+use Rattle.wasm_validator_checks.specs.WasmValidatorCanonical.GroupFaults as told
 use Rattle.wasm_validator_checks.specs.WasmValidatorCanonical.Groups.{AreValid, with_written}
 use Rattle.wasm_validator_checks.proofs.WasmValidatorCanonical.Steps.{written_length, written_known}
 use Rattle.wasm_validator_checks.specs.WasmValidatorTypeList.DefTypes.{types_of_list}
@@ -26,7 +26,7 @@ use Rattle.wasm_validator_core.specs.declared.error.Error.{Error}
 use Rattle.wasm_validator_core.specs.Errors.{IsAt, IfContent, lifted}
 use Rattle.wasm_validator_core.specs.Answers.{TypesSoFar, IsNowhere, AddsWhere, HasValidTypes}
 use Rattle.wasm_validator_core.specs.Machine.{with_ids, add_group}
-use Rattle.wasm_validator_core.specs.Ready.{AreIdsOf}
+use Rattle.wasm_validator_core.specs.OpenLists.{AreIdsOf}
 
 -- a refusal, as the answer of a call that gives nothing
 abbrev pub refusal : {A : Type 0} → Error A → Result (Unit {0}) (Error A)

@@ -5,7 +5,7 @@ use Rattle.wasm_readers_errors.specs.declared.error.Refusal.{Refusal}
 use Rattle.wasm_readers_types.specs.declared.types.FuncType.{FuncType}
 use Rattle.wasm_readers_types.specs.declared.types.SubType.{SubType}
 use Rattle.wasm_readers_types.specs.declared.types.CompositeInnerType.TheVariants.{Func}
-use Rattle.wasm_validator_checks.specs.WasmValidatorTypeList.Listing.{Listing, types_in}
+use Rattle.wasm_validator_checks.specs.WasmValidatorTypeList.ListViews.{Listing, types_in}
 use Rattle.wasm_validator_checks.specs.WasmValidatorTypes.Spaces.{Spaces}
 
 -- the type of the function with this index is this function type of the list, under the id of its type index

@@ -17,7 +17,7 @@ use Rattle.wasm_validator_checks.specs.WasmValidatorTypes.Spaces.{Spaces, with_i
 use Rattle.wasm_validator_core.specs.declared.limits.TheConstants.{MAX_FUNCTIONS, MAX_GLOBALS, MAX_TAGS, MAX_DATA_SEGMENTS}
 use Rattle.wasm_validator_core.specs.Answers.{TypesSoFar}
 pub use Rattle.wasm_validator_checks.specs.Names.{is_short}
-pub use Rattle.wasm_validator_checks.specs.Listed.{listed, entity}
+pub use Rattle.wasm_validator_checks.specs.ListedExterns.{listed, entity}
 pub use Rattle.wasm_validator_checks.specs.Sizes.{function_size, entity_size, grown}
 
 -- the module's types, in the order of their indices

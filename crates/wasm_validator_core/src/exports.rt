@@ -11,7 +11,7 @@ ghost use Rattle.wasm_validator_checks.specs.WasmValidatorTypeList.DefTypes.{typ
 ghost use Rattle.wasm_validator_core.specs.Errors.{IsAt};
 ghost use Rattle.wasm_validator_core.specs.Answers.{Adds};
 ghost use Rattle.wasm_validator_core.specs.Items.{exported_function, exported_table, exported_memory, exported_global, exported_tag, exported_entity, with_export, add_exporting};
-ghost use Rattle.wasm_validator_core.specs.Told.{TellsExport, told_of_size, told_of_entity_there, told_of_entity};
+ghost use Rattle.wasm_validator_core.specs.AddedItemRefusals.{TellsExport, told_of_size, told_of_entity_there, told_of_entity};
 ghost use Rattle.wasm_readers_errors.specs.Refusals.{refused};
 
 use crate::error::Error;

@@ -9,8 +9,8 @@ ghost use Rattle.wasm_validator_checks.specs.WasmValidatorTypeList.DefTypes.{typ
 ghost use Rattle.wasm_validator_core.specs.Errors.{IsAt};
 ghost use Rattle.wasm_validator_core.specs.Answers.{Adds};
 ghost use Rattle.wasm_validator_core.specs.Items.{with_imported, with_named, add_importing};
-ghost use Rattle.wasm_validator_core.specs.Ready.{AreHeld, IsTyped};
-ghost use Rattle.wasm_validator_core.specs.Told.{Tells, told_of_imported, told_of_size, told_of_importing};
+ghost use Rattle.wasm_validator_core.specs.OpenLists.{AreHeld, IsTyped};
+ghost use Rattle.wasm_validator_core.specs.AddedItemRefusals.{Tells, told_of_imported, told_of_size, told_of_importing};
 
 use crate::error::Error;
 use crate::items::{place_function, place_imported_global, place_memory, place_table, place_tag};

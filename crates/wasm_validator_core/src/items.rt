@@ -11,13 +11,13 @@ ghost use Rattle.wasm_readers_types.specs.WasmReadersValues.SeenValues.{ref_of};
 ghost use Rattle.wasm_validator_checks.specs.WasmValidatorCanonical.Indices.{canonical_index};
 ghost use Rattle.wasm_validator_checks.specs.Answers.{IsRefusalAt};
 ghost use Rattle.wasm_validator_checks.specs.Items.{is_valid_defined_table};
-ghost use Rattle.wasm_validator_checks.specs.Told.{told_of_defined_table};
+ghost use Rattle.wasm_validator_checks.specs.ItemRefusals.{told_of_defined_table};
 ghost use Rattle.wasm_validator_checks.specs.WasmValidatorTypeList.DefTypes.{types_of_list};
 ghost use Rattle.wasm_validator_core.specs.Errors.{IsAt, IsMemory};
 ghost use Rattle.wasm_validator_core.specs.Answers.{Adds};
 ghost use Rattle.wasm_validator_core.specs.Items.{types_of_module, with_function, with_table, with_memory, with_imported_global, with_global, with_tag, add_function, add_table, add_memory, add_tag};
-ghost use Rattle.wasm_validator_core.specs.Ready.{AreHeld};
-ghost use Rattle.wasm_validator_core.specs.Told.{Tells, told_of_limit, told_of_table_limit, told_of_memory_limit, told_of_added_function, told_of_added_table, told_of_added_memory, told_of_added_tag};
+ghost use Rattle.wasm_validator_core.specs.OpenLists.{AreHeld};
+ghost use Rattle.wasm_validator_core.specs.AddedItemRefusals.{Tells, told_of_limit, told_of_table_limit, told_of_memory_limit, told_of_added_function, told_of_added_table, told_of_added_memory, told_of_added_tag};
 
 use crate::error::Error;
 use crate::limits::{MAX_FUNCTIONS, MAX_GLOBALS, MAX_TAGS, check_max, max_memories, max_tables};

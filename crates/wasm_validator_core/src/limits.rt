@@ -5,8 +5,8 @@ ghost use Rattle.wasm_spec_rules.specs.FeatureFlags.{features_of};
 ghost use Rattle.wasm_spec_rules.specs.Limits.{most_tables, most_memories};
 ghost use Rattle.wasm_validator_checks.specs.Answers.{IsRefusalAt};
 ghost use Rattle.wasm_validator_core.specs.Items.{is_data_count};
-ghost use Rattle.wasm_validator_core.specs.Told.{told_of_data_count};
-ghost use Rattle.wasm_validator_core.specs.OverLimit.{lifting_one, lifting_limit, beyond_limit};
+ghost use Rattle.wasm_validator_core.specs.AddedItemRefusals.{told_of_data_count};
+ghost use Rattle.wasm_validator_core.specs.LimitRefusals.{lifting_one, lifting_limit, beyond_limit};
 ghost use Rattle.wasm_readers_errors.specs.Refusals.{refused};
 
 use bitflags::Flags;

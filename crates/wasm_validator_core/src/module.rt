@@ -16,17 +16,17 @@ ghost use Rattle.wasm_validator_checks.specs.WasmValidatorTypes.Entities.{entity
 ghost use Rattle.wasm_validator_checks.specs.WasmValidatorTypeList.DefTypes.{types_of_list};
 ghost use Rattle.wasm_validator_checks.specs.WasmValidatorTypes.Spaces.{no_spaces};
 ghost use Rattle.wasm_validator_checks.specs.WasmValidatorCanonical.Groups.{has_form, AreValid};
-ghost use Rattle.wasm_validator_checks.specs.WasmValidatorCanonical.Interned.{KeepsGroups};
+ghost use Rattle.wasm_validator_checks.specs.WasmValidatorCanonical.GroupInterning.{KeepsGroups};
 ghost use Rattle.wasm_validator_checks.specs.WasmValidatorCanonical.Indices.{canonical_index};
 ghost use Rattle.wasm_validator_core.specs.Errors.{IsAt, IsMemory, IfContent};
 ghost use Rattle.wasm_validator_core.specs.Answers.{Adds, AddsWhere, HasValidTypes};
 ghost use Rattle.wasm_validator_core.specs.Functions.{IsTypeOfFunction, IsUnknownFunction};
-ghost use Rattle.wasm_validator_core.specs.Ready.{IsOpenFor, AreIdsOf, AreHeld};
+ghost use Rattle.wasm_validator_core.specs.OpenLists.{IsOpenFor, AreIdsOf, AreHeld};
 ghost use Rattle.wasm_validator_core.specs.Machine.{add_group};
 ghost use Rattle.wasm_validator_core.specs.Items.{types_of_module, listed, entity, exported_function, exported_entity, arity_of_function, is_startable, add_import, add_function, with_table, add_table, add_memory, with_global, add_tag, add_export};
-ghost use Rattle.wasm_validator_core.specs.Told.{Tells, TellsExport, told_of_added_function, told_of_table_limit, told_of_added_table, told_of_added_memory, told_of_limit, told_of_added_tag, ToldOfAddedGroup, told_of_import, told_of_entity_there, told_of_export, told_of_function_type, told_of_start};
+ghost use Rattle.wasm_validator_core.specs.AddedItemRefusals.{Tells, TellsExport, told_of_added_function, told_of_table_limit, told_of_added_table, told_of_added_memory, told_of_limit, told_of_added_tag, ToldOfAddedGroup, told_of_import, told_of_entity_there, told_of_export, told_of_function_type, told_of_start};
 ghost use Rattle.wasm_readers_errors.specs.Refusals.{refused};
-ghost use Rattle.wasm_validator_checks.specs.Told.{told_of_extern, told_of_defined_table};
+ghost use Rattle.wasm_validator_checks.specs.ItemRefusals.{told_of_extern, told_of_defined_table};
 
 use crate::error::Error;
 use crate::exports::{add_one_export, exported, function_entity};

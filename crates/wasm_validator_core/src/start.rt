@@ -7,8 +7,8 @@ ghost use Rattle.wasm_validator_checks.specs.Answers.{IsPlainRefusalAt};
 ghost use Rattle.wasm_validator_checks.specs.WasmValidatorTypeList.DefTypes.{types_of_list};
 ghost use Rattle.wasm_validator_core.specs.Functions.{IsTypeOfFunction, IsUnknownFunction};
 ghost use Rattle.wasm_validator_core.specs.Items.{arity_of_function, is_startable};
-ghost use Rattle.wasm_validator_core.specs.Ready.{AreHeld};
-ghost use Rattle.wasm_validator_core.specs.Told.{told_of_function_type, told_of_start};
+ghost use Rattle.wasm_validator_core.specs.OpenLists.{AreHeld};
+ghost use Rattle.wasm_validator_core.specs.AddedItemRefusals.{told_of_function_type, told_of_start};
 ghost use Rattle.wasm_readers_errors.specs.Refusals.{refused};
 
 use std::alloc::Allocator;

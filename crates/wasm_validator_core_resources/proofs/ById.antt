@@ -23,14 +23,14 @@ use Rattle.wasm_readers_types.specs.declared.types.CompositeInnerType.{Composite
 use Rattle.wasm_readers_types.specs.declared.types.CompositeInnerType.TheVariants.{Struct}
 use Rattle.wasm_readers_types.specs.declared.types.SubType.{SubType}
 use Rattle.wasm_validator_type_list.specs.WasmValidatorTypeGroups.Groups.{all_in, first_of, IsInGroup}
-use Rattle.wasm_validator_type_list.specs.Listable.{IsKnown, AreListable}
+use Rattle.wasm_validator_type_list.specs.GroupOrder.{IsKnown, AreListable}
 use Rattle.wasm_validator_type_list.specs.Lookups.{leads_to, group_span}
-use Rattle.wasm_validator_type_list.specs.Declares.{sub_by_ids, subs_by_ids, declares}
+use Rattle.wasm_validator_type_list.specs.DeclarationsById.{sub_by_ids, subs_by_ids, declares}
 use Rattle.wasm_validator_type_list.proofs.DefTypes.{first_of-within}
 use Rattle.wasm_validator_type_list.proofs.Lookups.{first_of-next, member_at}
-use Rattle.wasm_validator_type_list.proofs.Declares.{declares-at}
-use Rattle.wasm_validator_type_list.proofs.Grouped.{all-left, all-right, all-flat}
-use Rattle.wasm_validator_type_list.proofs.Joined.{length-subs}
+use Rattle.wasm_validator_type_list.proofs.IdDeclarations.{declares-at}
+use Rattle.wasm_validator_type_list.proofs.GroupMatching.{all-left, all-right, all-flat}
+use Rattle.wasm_validator_type_list.proofs.IdsAndTypes.{length-subs}
 use Rattle.wasm_validator_core_resources.specs.IndexContexts.{id_of}
 use Rattle.wasm_validator_core_resources.specs.ModuleContexts.{AreByIds}
 use Rattle.wasm_validator_core_resources.specs.ById.{as_id, Reaches, AreFirstByIds, NoneAreFirst, AllAreFirst, FirstStayFirst}

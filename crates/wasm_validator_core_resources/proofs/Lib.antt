@@ -1,9 +1,9 @@
-pub mod Seen
-pub mod Listed
+pub mod ListWorlds
+pub mod IdReferences
 pub mod Lists
-pub mod Exact
-pub mod Declared
+pub mod ExactFunctions
+pub mod ContextTypes
 pub mod ById
 pub mod SharedTypes
-pub mod Referenced
-pub mod Reading
+pub mod ReferencedFunctions
+pub mod CodeSectionTypes

@@ -8,16 +8,16 @@ use Rattle.wasm_spec.specs.References.{refs_sub}
 use Rattle.wasm_spec.proofs.Agreement.{map_sub-undone}
 use Rattle.wasm_readers_types.specs.WasmReadersValues.Indices.{IsId}
 use Rattle.wasm_readers_types.specs.SeenTypes.{sub_of}
-use Rattle.wasm_readers_types.specs.SeenApart.{subs_of-apart}
+use Rattle.wasm_readers_types.specs.SyntaxEquality.{subs_of-apart}
 use Rattle.wasm_readers_types.specs.WasmReadersValues.declared.indices.UnpackedIndex.{UnpackedIndex}
 use Rattle.wasm_readers_types.specs.WasmReadersValues.declared.indices.UnpackedIndex.TheVariants.{Module, RecGroup, Id}
 use Rattle.wasm_readers_types.specs.declared.types.SubType.{SubType}
 use Rattle.wasm_validator_type_list.specs.WasmValidatorTypeGroups.Groups.{all_in}
 use Rattle.wasm_validator_type_list.specs.WasmValidatorTypeGroups.Fronts.{IsFront}
 use Rattle.wasm_validator_type_list.specs.Lookups.{leads_to}
-use Rattle.wasm_validator_type_list.specs.Declares.{sub_by_ids, subs_by_ids}
-use Rattle.wasm_validator_type_list.specs.Listable.{ReferByIds}
-use Rattle.wasm_validator_type_list.proofs.Grouped.{all-left, all-right}
+use Rattle.wasm_validator_type_list.specs.DeclarationsById.{sub_by_ids, subs_by_ids}
+use Rattle.wasm_validator_type_list.specs.GroupOrder.{ReferByIds}
+use Rattle.wasm_validator_type_list.proofs.GroupMatching.{all-left, all-right}
 use Rattle.wasm_validator_core_resources.specs.IndexContexts.{id_of}
 use Rattle.wasm_validator_core_resources.specs.ById.{AreFirstByIds}
 

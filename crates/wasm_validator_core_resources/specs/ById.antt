@@ -6,7 +6,7 @@ use Rattle.wasm_readers_types.specs.WasmReadersValues.declared.indices.TheConsta
 use Rattle.wasm_readers_types.specs.WasmReadersValues.declared.indices.UnpackedIndex.{UnpackedIndex}
 use Rattle.wasm_readers_types.specs.declared.types.SubType.{SubType}
 use Rattle.wasm_validator_type_list.specs.Lookups.{leads_to}
-use Rattle.wasm_validator_type_list.specs.Declares.{subs_by_ids}
+use Rattle.wasm_validator_type_list.specs.DeclarationsById.{subs_by_ids}
 use Rattle.wasm_validator_core_resources.specs.IndexContexts.{id_of}
 use Rattle.wasm_validator_core_resources.specs.ModuleContexts.{AreByIds}
 

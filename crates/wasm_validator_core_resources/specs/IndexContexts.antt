@@ -10,7 +10,7 @@ use Rattle.wasm_readers_types.specs.WasmReadersValues.Indices.{IsId}
 use Rattle.wasm_readers_types.specs.WasmReadersValues.declared.indices.UnpackedIndex.{UnpackedIndex}
 use Rattle.wasm_readers_types.specs.declared.types.SubType.{SubType}
 use Rattle.wasm_validator_type_list.specs.Lookups.{leads_to}
-use Rattle.wasm_validator_type_list.specs.Listable.{AreListable}
+use Rattle.wasm_validator_type_list.specs.GroupOrder.{AreListable}
 use Rattle.wasm_validator_type_list.specs.Worlds.{ids_world}
 use Rattle.wasm_validator_resources.specs.WasmSpecRules.Worlds.{world_of}
 use Rattle.wasm_validator_core_resources.specs.ListContexts.{list_declares, IsSeen}

@@ -3,5 +3,5 @@ pub mod ListContexts
 pub mod IndexContexts
 pub mod ModuleContexts
 pub mod ById
-pub mod Shown
-pub mod ShownWithCode
+pub mod ModuleLookups
+pub mod CodeLookups

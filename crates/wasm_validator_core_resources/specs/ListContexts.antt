@@ -6,11 +6,11 @@ use Rattle.wasm_spec.specs.Syntax.{Val, map_val, Sub, map_sub}
 use Rattle.wasm_spec.specs.MatchingTests.{IsWorld, matches_val}
 use Rattle.wasm_validator_resources.specs.WasmSpecRules.Contexts.{Context}
 use Rattle.wasm_readers_types.specs.declared.types.SubType.{SubType}
-use Rattle.wasm_validator_type_list.specs.Listable.{AreListable}
-use Rattle.wasm_validator_type_list.specs.Declares.{subs_by_ids}
+use Rattle.wasm_validator_type_list.specs.GroupOrder.{AreListable}
+use Rattle.wasm_validator_type_list.specs.DeclarationsById.{subs_by_ids}
 use Rattle.wasm_validator_type_list.specs.Worlds.{ids_world}
 use Rattle.wasm_validator_resources.specs.WasmSpecRules.Worlds.{world_of}
-use Rattle.wasm_operator_steps.specs.Renaming.{Renames}
+use Rattle.wasm_spec_steps.specs.Renaming.{Renames}
 
 module _ {R : Type 0} (f : ℕ → R) where
   -- these sub types under the ids from this number on

@@ -7,8 +7,8 @@ use Rattle.wasm_validator_resources.specs.WasmSpecRules.Contexts.{Context}
 use Rattle.wasm_readers_types.specs.WasmReadersValues.declared.indices.UnpackedIndex.{UnpackedIndex}
 use Rattle.wasm_readers_types.specs.declared.types.SubType.{SubType}
 use Rattle.wasm_readers_types.specs.SeenTypes.{sub_of}
-use Rattle.wasm_validator_type_list.specs.Listing.{Listing}
-use Rattle.wasm_validator_type_list.specs.Declares.{subs_by_ids}
+use Rattle.wasm_validator_type_list.specs.ListViews.{Listing}
+use Rattle.wasm_validator_type_list.specs.DeclarationsById.{subs_by_ids}
 use Rattle.wasm_validator_types.specs.Spaces.{Spaces}
 use Rattle.wasm_validator_core_resources.specs.ListContexts.{list_declares}
 use Rattle.wasm_validator_core_resources.specs.IndexContexts.{id_of}

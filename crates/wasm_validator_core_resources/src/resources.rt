@@ -46,7 +46,7 @@ impl<'a, A: Allocator> Model for ModuleResources<'a, A> {
 
     ghost Value = { Context UnpackedIndex };
 
-    ghost use Rattle.wasm_validator_core_resources.specs.Shown.{shown, IsSound};
+    ghost use Rattle.wasm_validator_core_resources.specs.ModuleLookups.{shown, IsSound};
 
     ghost view = { shown };
 

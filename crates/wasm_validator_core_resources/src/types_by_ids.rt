@@ -4,9 +4,9 @@ ghost use Rattle.std.specs.Prelude.{◌≡◌, ◌<◌, [], length, take, Some, 
 ghost use Rattle.std.specs.Option.{option_map};
 ghost use Rattle.wasm_spec.specs.Syntax.{map_sub};
 ghost use Rattle.wasm_readers_types.specs.SeenTypes.{sub_of};
-ghost use Rattle.wasm_validator_type_list.specs.Listing.{types_in};
-ghost use Rattle.wasm_validator_type_list.specs.Declares.{declares};
-ghost use Rattle.wasm_validator_type_list.specs.Listable.{ReferByIds};
+ghost use Rattle.wasm_validator_type_list.specs.ListViews.{types_in};
+ghost use Rattle.wasm_validator_type_list.specs.DeclarationsById.{declares};
+ghost use Rattle.wasm_validator_type_list.specs.GroupOrder.{ReferByIds};
 ghost use Rattle.wasm_validator_core_resources.specs.IndexContexts.{id_of};
 ghost use Rattle.wasm_validator_core_resources.specs.ModuleContexts.{AreByIds};
 ghost use Rattle.wasm_validator_core_resources.specs.ById.{AreFirstByIds, NoneAreFirst, AllAreFirst, FirstStayFirst};

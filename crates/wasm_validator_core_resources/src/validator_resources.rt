@@ -53,7 +53,7 @@ impl<A: Allocator> Model for CodeModule<A> {
 
     ghost Value = { Context UnpackedIndex };
 
-    ghost use Rattle.wasm_validator_core_resources.specs.ShownWithCode.{shown, IsSound};
+    ghost use Rattle.wasm_validator_core_resources.specs.CodeLookups.{shown, IsSound};
 
     ghost view = { shown };
 

@@ -12,25 +12,25 @@ use Rattle.wasm_readers_errors.specs.declared.error.Error.TheVariants.{Refused, 
 use Rattle.wasm_readers_errors.specs.declared.error.Refusal.{Refusal}
 use Rattle.wasm_readers_types.specs.WasmReadersValues.declared.indices.UnpackedIndex.{UnpackedIndex}
 use Rattle.wasm_operators.specs.Control.{func_block}
-use Rattle.wasm_operator_steps.specs.Bodies.{Local}
-use Rattle.wasm_operator_steps.specs.Machine.{State}
+use Rattle.wasm_spec_steps.specs.Bodies.{Local}
+use Rattle.wasm_spec_steps.specs.Machine.{State}
 use Rattle.wasm_spec_rules.specs.Signatures.{Signature}
 use Rattle.wasm_spec_rules.specs.Limits.{most_locals}
-use Rattle.wasm_operator_steps.specs.Steps.{start}
+use Rattle.wasm_spec_steps.specs.Steps.{start}
 use Rattle.wasm_validator_resources.specs.Answers.{world, sub_in}
-use Rattle.wasm_operator_validator.specs.WasmOperatorStacks.Seen.{surroundings}
-use Rattle.wasm_operator_validator.specs.WasmOperatorControl.Blocks.{function_in}
-use Rattle.wasm_operator_validator.specs.Typed.{typed_state, locals_in, parameter, BeginsBody, HasMany}
-use Rattle.wasm_operator_validator.specs.declared.validator.OperatorValidator.{OperatorValidator}
-use Rattle.wasm_operator_validator.specs.WasmOperatorChecks.Told.{TellsError}
-use Rattle.wasm_operator_validator.specs.WasmOperatorChecks.declared.faults.OperatorError.{OperatorError}
-use Rattle.wasm_operator_validator.specs.WasmOperatorChecks.declared.faults.OperatorError.TheVariants as operator_error
-use Rattle.wasm_operator_validator.specs.Checked.{within, IsRefusedAt, StandsIn}
+use Rattle.wasm_typing_validator.specs.WasmTypingStacks.BodyStacks.{surroundings}
+use Rattle.wasm_typing_validator.specs.WasmTypingControl.Blocks.{function_in}
+use Rattle.wasm_typing_validator.specs.BodyTyping.{typed_state, locals_in, parameter, BeginsBody, HasMany}
+use Rattle.wasm_typing_validator.specs.declared.validator.OperatorValidator.{OperatorValidator}
+use Rattle.wasm_typing_validator.specs.WasmTypingChecks.OperatorRefusals.{TellsError}
+use Rattle.wasm_typing_validator.specs.WasmTypingChecks.declared.faults.OperatorError.{OperatorError}
+use Rattle.wasm_typing_validator.specs.WasmTypingChecks.declared.faults.OperatorError.TheVariants as operator_error
+use Rattle.wasm_typing_validator.specs.TypedInstructions.{within, IsRefusedAt, StandsIn}
 use Rattle.wasm_validator_func.specs.Bodies.{body_from}
-use Rattle.wasm_operator_steps.specs.FunctionBodies.{IsBody}
+use Rattle.wasm_spec_steps.specs.FunctionBodies.{IsBody}
 use Rattle.wasm_validator_func.specs.Functions.{IsFunctionBody, Refuses, HasMore, StandsFirst, StandsInOrFirst}
-use Rattle.wasm_validator_func.specs.Validated.{body_in, Validates}
-use Rattle.wasm_validator_func.proofs.Finding.{finds, are_found}
+use Rattle.wasm_validator_func.specs.BodyValidation.{body_in, Validates}
+use Rattle.wasm_validator_func.proofs.BodyBytes.{finds, are_found}
 
 abbrev value_or : {X : Type 0} → X → Option X → X
 value_or x None = x

@@ -1,8 +1,8 @@
-pub mod Reading
-pub mod Declaring
+pub mod DeclarationReads
+pub mod LocalDeclarations
 pub mod Machine
-pub mod Bytes
-pub mod Stepping
-pub mod Finding
-pub mod Whole
+pub mod ByteSteps
+pub mod OperatorSteps
+pub mod BodyBytes
+pub mod WholeBodies
 pub mod Functions

@@ -3,9 +3,9 @@ use Rattle.std.proofs.Common.{◌≡◌, ◌∙◌, refl, sym, ap, ℕ, zero, su
 use Rattle.std.specs.Option.{option_and_then}
 use Rattle.wasm_spec.specs.MatchingTests.{World}
 use Rattle.wasm_operators.specs.Instructions.{Instruction, instruction_at}
-use Rattle.wasm_operator_steps.specs.Bodies.{Surroundings}
-use Rattle.wasm_operator_steps.specs.Machine.{State}
-use Rattle.wasm_operator_steps.specs.Steps.{step_in, is_finished}
+use Rattle.wasm_spec_steps.specs.Bodies.{Surroundings}
+use Rattle.wasm_spec_steps.specs.Machine.{State}
+use Rattle.wasm_spec_steps.specs.Steps.{step_in, is_finished}
 use Rattle.wasm_validator_func.specs.Bodies.{typed_from, instructions_from}
 
 module _ {R : Type 0} (W : World R) (B : Surroundings R) where

@@ -6,10 +6,10 @@ use Rattle.wasm_spec.specs.Features.{Features}
 use Rattle.wasm_spec.specs.Values.{u32_at}
 use Rattle.wasm_spec.specs.MatchingTests.{World}
 use Rattle.wasm_operators.specs.Instructions.{instruction_at}
-use Rattle.wasm_operator_steps.specs.Bodies.{Local, Surroundings}
-use Rattle.wasm_operator_steps.specs.FunctionBodies.{Declaration, declaration_at, local_declared, type_of, with_locals, IsBody}
-use Rattle.wasm_operator_steps.specs.Machine.{State}
-use Rattle.wasm_operator_steps.specs.Steps.{step_in, is_finished}
+use Rattle.wasm_spec_steps.specs.Bodies.{Local, Surroundings}
+use Rattle.wasm_spec_steps.specs.FunctionBodies.{Declaration, declaration_at, local_declared, type_of, with_locals, IsBody}
+use Rattle.wasm_spec_steps.specs.Machine.{State}
+use Rattle.wasm_spec_steps.specs.Steps.{step_in, is_finished}
 use Rattle.wasm_spec_rules.specs.Limits.{most_locals}
 
 module _ {R : Type 0} (F : Features) (types : List R) where

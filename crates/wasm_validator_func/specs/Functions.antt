@@ -8,9 +8,9 @@ use Rattle.wasm_readers_bytes.specs.declared.binary_reader.BinaryReader.{BinaryR
 use Rattle.wasm_readers_errors.specs.declared.error.Error.{Error}
 use Rattle.wasm_readers_errors.specs.declared.error.Error.TheVariants.{Refused, OutOfMemory}
 use Rattle.wasm_readers_types.specs.WasmReadersValues.declared.indices.UnpackedIndex.{UnpackedIndex}
-use Rattle.wasm_operator_steps.specs.FunctionBodies.{IsBodyOfFunction}
+use Rattle.wasm_spec_steps.specs.FunctionBodies.{IsBodyOfFunction}
 use Rattle.wasm_validator_resources.specs.Answers.{world}
-use Rattle.wasm_operator_validator.specs.Checked.{StandsIn}
+use Rattle.wasm_typing_validator.specs.TypedInstructions.{StandsIn}
 
 -- the bytes are the body of a function of the type with this index
 abbrev pub IsFunctionBody : Features → Context UnpackedIndex → ℕ → List ℕ → Type 0

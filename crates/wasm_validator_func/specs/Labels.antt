@@ -6,9 +6,9 @@ use Rattle.wasm_spec_rules.specs.Contexts.{Context}
 use Rattle.wasm_spec_rules.specs.Signatures.{Signature}
 use Rattle.wasm_readers_types.specs.WasmReadersValues.declared.indices.UnpackedIndex.{UnpackedIndex}
 use Rattle.wasm_operators.specs.Control.{Block}
-use Rattle.wasm_operator_steps.specs.Machine.{State}
-use Rattle.wasm_operator_steps.specs.Meanings.{label_by}
-use Rattle.wasm_operator_validator.specs.WasmOperatorControl.Blocks.{signature_in}
+use Rattle.wasm_spec_steps.specs.Machine.{State}
+use Rattle.wasm_spec_steps.specs.Meanings.{label_by}
+use Rattle.wasm_typing_validator.specs.WasmTypingControl.Blocks.{signature_in}
 
 -- how many parameters and results there are
 abbrev pub both_lengths : Signature UnpackedIndex → ℕ × ℕ

@@ -1,5 +1,5 @@
-pub use Rattle.wasm_operator_validator.specs.Stepped
+pub use Rattle.wasm_typing_validator.specs.StackSteps
 pub mod Bodies
-pub mod Validated
+pub mod BodyValidation
 pub mod Functions
 pub mod Labels

@@ -3,15 +3,15 @@
 
 use crate::func_validator::FuncValidator;
 use std::alloc::Allocator;
-use wasm_operator_validator::{FrameStack, ModuleArity, func_type_of, tag_arity};
 use wasm_operators::{BlockType, FrameKind};
 use wasm_readers_types::{ContType, FuncType, RefType, SubType, UnpackedIndex};
+use wasm_typing_validator::{FrameStack, ModuleArity, func_type_of, tag_arity};
 use wasm_validator_resources::WasmModuleResources;
 
 impl<T: WasmModuleResources, A: Allocator> ModuleArity for FuncValidator<T, A> {
     type A = T::A;
 
-    ghost use Rattle.wasm_operator_validator.specs.Answered.{asked_in};
+    ghost use Rattle.wasm_typing_validator.specs.ModuleAnswers.{asked_in};
 
     ghost asked = { λ v. asked_in v.validator.stacks (T.context v.resources) };
 
@@ -54,7 +54,7 @@ impl<T: WasmModuleResources, A: Allocator> ModuleArity for FuncValidator<T, A> {
 }
 
 impl<T: WasmModuleResources, A: Allocator> FrameStack for FuncValidator<T, A> {
-    ghost use Rattle.wasm_operator_validator.specs.Answered.{kinds_in};
+    ghost use Rattle.wasm_typing_validator.specs.ModuleAnswers.{kinds_in};
 
     ghost kinds = { λ v. kinds_in v.validator.stacks };
 

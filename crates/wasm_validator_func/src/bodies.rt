@@ -3,21 +3,21 @@
 ghost use Rattle.std.specs.Prelude.{◌≡◌, ◌≤◌, ◌<◌, ◌||◌, not, true, false, is_ok, IfErr, OnOk};
 ghost use Rattle.wasm_readers_bytes.specs.Reader.{SameInput, position_in, rest};
 ghost use Rattle.wasm_readers_errors.specs.Refusals.{plain};
-ghost use Rattle.wasm_parser.specs.Seen.{body_of, body_reader};
+ghost use Rattle.wasm_parser.specs.PayloadViews.{body_of, body_reader};
 ghost use Rattle.wasm_validator_resources.specs.Answers.{world};
-ghost use Rattle.wasm_operator_validator.specs.WasmOperatorStacks.Seen.{Kept};
-ghost use Rattle.wasm_operator_validator.specs.Typed.{typed_state, locals_in};
-ghost use Rattle.wasm_operator_validator.specs.Checked.{within, IsRefusedAt, StandsIn, ReadsTo};
-ghost use Rattle.wasm_operator_validator.specs.Reads.{ReadsStep, stepped};
+ghost use Rattle.wasm_typing_validator.specs.WasmTypingStacks.BodyStacks.{Kept};
+ghost use Rattle.wasm_typing_validator.specs.BodyTyping.{typed_state, locals_in};
+ghost use Rattle.wasm_typing_validator.specs.TypedInstructions.{within, IsRefusedAt, StandsIn, ReadsTo};
+ghost use Rattle.wasm_typing_validator.specs.StepsFromBytes.{ReadsStep, stepped};
 ghost use Rattle.wasm_validator_func.specs.Bodies.{instructions_from};
-ghost use Rattle.wasm_validator_func.specs.Validated.{body_in, Goes, Validates};
+ghost use Rattle.wasm_validator_func.specs.BodyValidation.{body_in, Goes, Validates};
 
 use crate::locals::read_declarations;
 use std::alloc::Allocator;
-use wasm_operator_validator::{NotTaken, OperatorValidator};
 use wasm_parser::FunctionBody;
 use wasm_readers::BinaryReader;
 use wasm_readers_errors::{Error, Fault, OperatorRule, Refusal};
+use wasm_typing_validator::{NotTaken, OperatorValidator};
 use wasm_validator_resources::WasmModuleResources;
 
 /// The refusal by a rule, at this offset.

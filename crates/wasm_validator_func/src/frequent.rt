@@ -2,15 +2,15 @@
 
 ghost use Rattle.std.specs.Prelude.{◌≡◌, ◌<◌, Some, true, false, is_ok, OnOk, OnErr};
 ghost use Rattle.wasm_readers_bytes.specs.Reader.{SameInput, position_in, rest};
-ghost use Rattle.wasm_operator_steps.specs.Steps.{is_finished};
-ghost use Rattle.wasm_operator_validator.specs.WasmOperatorStacks.Seen.{Kept};
-ghost use Rattle.wasm_operator_validator.specs.Typed.{typed_state};
-ghost use Rattle.wasm_operator_validator.specs.Reads.{stepped};
+ghost use Rattle.wasm_spec_steps.specs.Steps.{is_finished};
+ghost use Rattle.wasm_typing_validator.specs.WasmTypingStacks.BodyStacks.{Kept};
+ghost use Rattle.wasm_typing_validator.specs.BodyTyping.{typed_state};
+ghost use Rattle.wasm_typing_validator.specs.StepsFromBytes.{stepped};
 
 use crate::func_validator::FuncValidator;
 use std::alloc::Allocator;
-use wasm_operator_validator::NotTaken;
 use wasm_readers::BinaryReader;
+use wasm_typing_validator::NotTaken;
 use wasm_validator_resources::WasmModuleResources;
 
 impl<T: WasmModuleResources, A: Allocator> FuncValidator<T, A> {

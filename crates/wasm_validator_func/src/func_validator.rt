@@ -4,30 +4,30 @@ ghost use Rattle.std.specs.Prelude.{◌≡◌, ◌≤◌, ◌<◌, ◌^◌, ◌-
 ghost use Rattle.std.specs.Option.{option_map};
 ghost use Rattle.wasm_readers_bytes.specs.Reader.{SameInput, position_in, place_of_next, rest};
 ghost use Rattle.wasm_spec_rules.specs.FeatureFlags.{features_of};
-ghost use Rattle.wasm_parser.specs.Seen.{body_of, body_reader};
+ghost use Rattle.wasm_parser.specs.PayloadViews.{body_of, body_reader};
 ghost use Rattle.wasm_readers_types.specs.WasmReadersValues.SeenValues.{val_of};
 ghost use Rattle.wasm_operators.specs.SeenOperators.{operator_of};
 ghost use Rattle.wasm_validator_resources.specs.Answers.{IsWrittenVal};
-ghost use Rattle.wasm_operator_validator.specs.WasmOperatorStacks.Seen.{Kept};
-ghost use Rattle.wasm_operator_validator.specs.WasmOperatorControl.Blocks.{function_in};
-ghost use Rattle.wasm_operator_validator.specs.Stepped.{IsWrittenInstruction};
-ghost use Rattle.wasm_operator_validator.specs.Visited.{StepsAt};
-ghost use Rattle.wasm_operator_validator.specs.Typed.{typed_state, locals_in, BeginsBody};
-ghost use Rattle.wasm_operator_validator.specs.Shown.{known_type, shown_frame};
-ghost use Rattle.wasm_operator_validator.specs.Checked.{StandsIn};
-ghost use Rattle.wasm_operator_validator.specs.Ended.{failure_at};
+ghost use Rattle.wasm_typing_validator.specs.WasmTypingStacks.BodyStacks.{Kept};
+ghost use Rattle.wasm_typing_validator.specs.WasmTypingControl.Blocks.{function_in};
+ghost use Rattle.wasm_typing_validator.specs.StackSteps.{IsWrittenInstruction};
+ghost use Rattle.wasm_typing_validator.specs.OperatorVisits.{StepsAt};
+ghost use Rattle.wasm_typing_validator.specs.BodyTyping.{typed_state, locals_in, BeginsBody};
+ghost use Rattle.wasm_typing_validator.specs.QueryResults.{known_type, shown_frame};
+ghost use Rattle.wasm_typing_validator.specs.TypedInstructions.{StandsIn};
+ghost use Rattle.wasm_typing_validator.specs.ValidatorFailures.{failure_at};
 ghost use Rattle.wasm_validator_func.specs.Functions.{IsFunctionBody, Decides, HasMore, StandsFirst, StandsInOrFirst};
-ghost use Rattle.wasm_validator_func.specs.Validated.{declaration_of, declared_in, listed_in, body_in, Goes, DeclaredAt, KeepsLocals, Declares, Validates};
+ghost use Rattle.wasm_validator_func.specs.BodyValidation.{declaration_of, declared_in, listed_in, body_in, Goes, DeclaredAt, KeepsLocals, Declares, Validates};
 
 use crate::bodies::{check_body, refused};
 use crate::locals::{define, read_declarations};
 use std::alloc::{Allocator, Global};
-use wasm_operator_validator::{Frame, MAX_LOCALS, OperatorValidator, OperatorValidatorAllocations};
 use wasm_operators::Operator;
 use wasm_parser::FunctionBody;
 use wasm_readers::BinaryReader;
 use wasm_readers_errors::{Error, Fault, OperatorRule, Refusal, WasmFeatures};
 use wasm_readers_types::{CompositeInnerType, ValType};
+use wasm_typing_validator::{Frame, MAX_LOCALS, OperatorValidator, OperatorValidatorAllocations};
 use wasm_validator_resources::WasmModuleResources;
 
 /// A function whose body is to be validated: what is looked up of its module, its index, its type's
@@ -342,7 +342,7 @@ impl<T: WasmModuleResources, A: Allocator> FuncValidator<T, A> {
     /// # Errors
     ///
     /// As [`FuncValidator::op`].
-    #[tactic(auto, using(crate::proofs::Stepping::tries))]
+    #[tactic(auto, using(crate::proofs::OperatorSteps::tries))]
     pub fn try_op<'a>(&mut self, offset: u64, op: &Operator<'a>) -> Result<(), Error>
         requires { IsWrittenInstruction (operator_of op.now) }
         ensures took { self.old.validator.failed ≡ false → StepsAt result offset

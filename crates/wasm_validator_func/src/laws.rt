@@ -1,7 +1,7 @@
 //! Laws of function bodies.
 
 ghost use Rattle.wasm_spec.specs.MatchingTests.{World};
-ghost use Rattle.wasm_operator_steps.specs.Bodies.{Surroundings};
+ghost use Rattle.wasm_spec_steps.specs.Bodies.{Surroundings};
 ghost use Rattle.wasm_validator_func.specs.Bodies.{FindsBodies, BodiesAreFound};
 
 /// What is read and typed declaration by declaration and operator by operator is a list of

@@ -37,9 +37,9 @@ pub mod operators {
     };
 }
 
-/// Passed on from `wasm_operator_validator`.
+/// Passed on from `wasm_typing_validator`.
 pub mod operator_validator {
-    pub use wasm_operator_validator::{
+    pub use wasm_typing_validator::{
         Frame, FrameStack, ModuleArity, NotTaken, Operand, OperatorError, OperatorFault,
         OperatorValidator, OperatorValidatorAllocations, OperatorVisitor, TypeWord, Word,
         is_written_operator, is_written_type, operator_arity,

@@ -4,21 +4,21 @@ ghost use Rattle.std.specs.Prelude.{◌≡◌, ◌≤◌, ◌<◌, ◌||◌, tru
 ghost use Rattle.wasm_readers_bytes.specs.Reader.{SameInput, position_in, rest, RefusedFrom};
 ghost use Rattle.wasm_readers_types.specs.WasmReadersValues.SeenValues.{val_of};
 ghost use Rattle.wasm_validator_resources.specs.Answers.{IsWrittenVal};
-ghost use Rattle.wasm_operator_validator.specs.Typed.{typed_state, locals_in};
-ghost use Rattle.wasm_operator_validator.specs.Checked.{StandsIn};
-ghost use Rattle.wasm_operator_steps.specs.FunctionBodies.{declaration_at};
-ghost use Rattle.wasm_validator_func.specs.Validated.{declaration_of, declared_in, counted_in, listed_in, Goes, DeclaredAt, KeepsLocals, Declares};
-ghost use Rattle.wasm_operator_validator.specs.Ended.{failure_at};
+ghost use Rattle.wasm_typing_validator.specs.BodyTyping.{typed_state, locals_in};
+ghost use Rattle.wasm_typing_validator.specs.TypedInstructions.{StandsIn};
+ghost use Rattle.wasm_spec_steps.specs.FunctionBodies.{declaration_at};
+ghost use Rattle.wasm_validator_func.specs.BodyValidation.{declaration_of, declared_in, counted_in, listed_in, Goes, DeclaredAt, KeepsLocals, Declares};
+ghost use Rattle.wasm_typing_validator.specs.ValidatorFailures.{failure_at};
 
 use std::alloc::Allocator;
-use wasm_operator_validator::OperatorValidator;
 use wasm_readers::types::read_val_type;
 use wasm_readers::{BinaryReader, Error, Refusal, ValType};
+use wasm_typing_validator::OperatorValidator;
 use wasm_validator_resources::WasmModuleResources;
 
 /// A declaration: how many locals, and their type, which names type indices of the module (Core
 /// Specification 3.0, Binary Format, Modules, Code Section).
-#[tactic(auto, using(crate::proofs::Reading::declarations), unfolding(wasm_operator_steps::specs::FunctionBodies::declaration_at))]
+#[tactic(auto, using(crate::proofs::DeclarationReads::declarations), unfolding(wasm_spec_steps::specs::FunctionBodies::declaration_at))]
 fn read_declaration(reader: &mut BinaryReader<'_>) -> Result<(u32, ValType), Refusal>
     ensures same { SameInput reader.old reader.new }
     ensures onward { position_in reader.old ≤ position_in reader.new }
@@ -41,7 +41,7 @@ fn read_declaration(reader: &mut BinaryReader<'_>) -> Result<(u32, ValType), Ref
 ///
 /// Refused, at the offset, where the features don't allow the type, where the module doesn't have
 /// it, and where there are too many locals; and all once something was refused.
-#[tactic(auto, using(crate::proofs::Declaring::declares))]
+#[tactic(auto, using(crate::proofs::LocalDeclarations::declares))]
 pub(crate) fn define<A: Allocator, T: WasmModuleResources>(
     validator: &mut OperatorValidator<A>,
     resources: &T,

@@ -2,12 +2,12 @@
 
 ghost use Rattle.std.specs.Prelude.{◌≡◌, ◌≤◌, ◌<◌, Some, None, IfOk, IfErr, OnOk, OnErr};
 ghost use Rattle.wasm_readers_bytes.specs.Reader.{SameInput, RefusedFrom, position_in, rest};
-ghost use Rattle.wasm_readers.specs.Written.{written};
+ghost use Rattle.wasm_readers.specs.WrittenIndices.{written};
 ghost use Rattle.wasm_operators.specs.Instructions.{instruction_at};
 ghost use Rattle.wasm_operators.specs.SeenOperators.{operator_of};
-ghost use Rattle.wasm_operator_steps.specs.Served.{served};
+ghost use Rattle.wasm_spec_steps.specs.ServedInstructions.{served};
 ghost use Rattle.wasm_spec_rules.specs.FeatureFlags.{features_of};
-ghost use Rattle.wasm_operator_validator.specs.Stepped.{IsWrittenInstruction};
+ghost use Rattle.wasm_typing_validator.specs.StackSteps.{IsWrittenInstruction};
 
 use wasm_operators::Operator;
 use wasm_readers::BinaryReader;
@@ -33,7 +33,7 @@ pub fn read_served<'a>(
     ensures err { OnErr result (served (features_of features)
         (instruction_at written (rest reader.old)) ≡ None) }
 {
-    match wasm_operator_validator::read_served(reader, features) {
+    match wasm_typing_validator::read_served(reader, features) {
         Ok(op) => Ok(op),
         Err(refusal) => Err(refusal),
     }

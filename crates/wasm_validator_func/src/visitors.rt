@@ -2,12 +2,12 @@
 
 ghost use Rattle.std.specs.Prelude.{◌≡◌};
 ghost use Rattle.std.specs.Borrow.{Lends, sem};
-ghost use Rattle.wasm_operator_validator.specs.contracts.validator.OperatorValidator.{the_row as operators_row};
+ghost use Rattle.wasm_typing_validator.specs.contracts.validator.OperatorValidator.{the_row as operators_row};
 ghost use Rattle.wasm_validator_func.specs.contracts.func_validator.FuncValidator.{the_row};
 
 use crate::func_validator::FuncValidator;
 use std::alloc::Allocator;
-use wasm_operator_validator::OperatorVisitor;
+use wasm_typing_validator::OperatorVisitor;
 use wasm_validator_resources::WasmModuleResources;
 
 impl<T: WasmModuleResources, A: Allocator> FuncValidator<T, A> {

@@ -4,14 +4,14 @@ use Rattle.std.specs.declared.alloc.Global.{Global}
 use Rattle.std.specs.declared.result.Result.{Result}
 use Rattle.std.specs.declared.result.Result.TheVariants.{Ok, Err}
 use Rattle.wasm_spec_rules.specs.FeatureFlags.{features_of}
-use Rattle.wasm_validator.specs.Standing.{Standing, may_reset, after_reset}
+use Rattle.wasm_validator.specs.ValidatorStages.{Standing, may_reset, after_reset}
 use Rattle.wasm_validator.specs.Headline.{Headline, types_held}
 use Rattle.wasm_validator.specs.WasmValidatorTypes.declared.shown.Types as shown
 use Rattle.wasm_validator.specs.WasmValidatorCore.declared.error.Error.{Error}
 use Rattle.wasm_validator_handles.specs.declared.kept.Kept.{Kept}
 use Rattle.wasm_validator_handles.specs.declared.kept.Kept.TheVariants.{Validator}
 use Rattle.wasm_validator_handles.specs.declared.kept.NotAsked.{NotAsked}
-use Rattle.wasm_validator_handles.specs.Keeping.{Answers, AnswersNext, Resets, ResetsNext}
+use Rattle.wasm_validator_handles.specs.HandleContents.{Answers, AnswersNext, Resets, ResetsNext}
 
 abbrev pub ModuleAnswer : Type 0
 ModuleAnswer = Result (shown.Types Global) (Error Global)

@@ -1,7 +1,7 @@
 pub use Rattle.wasm_validator.specs as WasmValidator
 pub mod Codes
 pub mod Handle
-pub mod Keeping
+pub mod HandleContents
 pub mod Values
 pub mod Pairs
 pub mod Entities

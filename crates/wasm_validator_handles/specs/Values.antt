@@ -8,8 +8,8 @@ use Rattle.wasm_spec.specs.Syntax.{AbstractHeap, any_heap, eq_heap, i31_heap, st
 use Rattle.wasm_spec.specs.Syntax.{extern_heap, noextern_heap, exn_heap, noexn_heap, cont_heap, nocont_heap}
 use Rattle.wasm_spec.specs.Syntax.{Heap, Ref, Val, i32, i64, f32, f64, v128, reference, concrete, exact, abstract_heap}
 use Rattle.wasm_spec.specs.Matching.{MatchesVal}
-use Rattle.wasm_validator.specs.WasmValidatorTypes.WasmValidatorTypeList.Declares.{declares}
-use Rattle.wasm_validator.specs.WasmValidatorTypes.WasmValidatorTypeList.Listing.{Listing, types_in}
+use Rattle.wasm_validator.specs.WasmValidatorTypes.WasmValidatorTypeList.DeclarationsById.{declares}
+use Rattle.wasm_validator.specs.WasmValidatorTypes.WasmValidatorTypeList.ListViews.{Listing, types_in}
 use Rattle.wasm_validator.specs.WasmValidatorTypes.WasmValidatorTypeList.Subtyping.{IsValOver, val_by_ids}
 use Rattle.wasm_readers_types.specs.WasmReadersValues.declared.values.ValType.{ValType}
 use Rattle.wasm_validator_handles.specs.declared.values.ValueType.{ValueType}

@@ -3,7 +3,7 @@
 ghost use Rattle.std.specs.Prelude.{◌≡◌, ◌≤◌, ◌++◌, ◌∷◌, [], if◌then◌else◌, length, IfOk, OnOk};
 ghost use Rattle.wasm_validator.specs.WasmValidatorTypes.Entities.{entity_of};
 ghost use Rattle.wasm_validator.specs.WasmValidatorTypes.Rows.{all_imports};
-ghost use Rattle.wasm_validator.specs.WasmValidatorTypes.Shown.{shown_by};
+ghost use Rattle.wasm_validator.specs.WasmValidatorTypes.ShownModules.{shown_by};
 ghost use Rattle.wasm_readers_types.specs.SeenExterns.{global_of, memory_of, table_of};
 ghost use Rattle.wasm_validator_handles.specs.Entities.{AreOf, Joins, counted, export_rows, extern_type_of};
 ghost use Rattle.wasm_validator_handles.specs.Entities.{by_id, entity_type_of, global_type_of, limit_flags, memory_type_of, plain_of, table_type_of};

@@ -5,7 +5,7 @@ ghost use Rattle.std.specs.declared.option.Option.{Option as Perhaps};
 ghost use Rattle.std.specs.declared.option.Option.TheVariants.{None as Nothing, Some as Just};
 ghost use Rattle.wasm_validator_handles.specs.declared.kept.Kept.{Kept as Stored};
 ghost use Rattle.wasm_validator_handles.specs.Codes.{coded_held};
-ghost use Rattle.wasm_validator_handles.specs.Keeping.{Answers, Resets, Shares, types_of};
+ghost use Rattle.wasm_validator_handles.specs.HandleContents.{Answers, Resets, Shares, types_of};
 
 use crate::kept::{Answer, Kept, NotAsked};
 use crate::loose::Loose;

@@ -4,7 +4,7 @@ ghost use Rattle.std.specs.Prelude.{◌≡◌, ◌≤◌, IfSome};
 ghost use Rattle.std.specs.Option.{option_map};
 ghost use Rattle.wasm_spec.specs.Syntax.{map_comp};
 ghost use Rattle.wasm_readers_types.specs.SeenTypes.{comp_of};
-ghost use Rattle.wasm_validator.specs.WasmValidatorTypes.WasmValidatorTypeList.Declares.{declares};
+ghost use Rattle.wasm_validator.specs.WasmValidatorTypes.WasmValidatorTypeList.DeclarationsById.{declares};
 ghost use Rattle.wasm_validator.specs.WasmValidatorTypes.WasmValidatorTypeList.Lookups.{leads_to};
 ghost use Rattle.wasm_validator_handles.specs.Signatures.{func_in, func_of_comp, signature_by_ids};
 ghost use Rattle.wasm_validator_handles.specs.declared.values.TheConstants.{MOST_IDS};

@@ -13,7 +13,7 @@ use Rattle.wasm_spec.specs.Features.{Features}
 use Rattle.wasm_spec_rules.specs.Contexts.{Context}
 use Rattle.wasm_spec_rules.specs.Parts.{Expression, index}
 use Rattle.wasm_spec_rules.specs.Limits.{most_items}
-use Rattle.wasm_readers.specs.Written.{written}
+use Rattle.wasm_readers.specs.WrittenIndices.{written}
 use Rattle.wasm_readers_types.specs.WasmReadersValues.declared.indices.UnpackedIndex.{UnpackedIndex}
 use Rattle.wasm_validator_core.specs.WasmValidatorCanonical.Indices.{canonical_index}
 use Rattle.wasm_validator_core.specs.WasmValidatorChecks.Items.{is_ref_in_range}
@@ -26,9 +26,9 @@ use Rattle.wasm_validator_types.specs.Spaces.{Spaces}
 use Rattle.wasm_validator_items.specs.Machine.{context_of}
 use Rattle.wasm_validator_items.specs.Entries.{listed_items_type, is_constant_of, are_items}
 use Rattle.wasm_validator_items.proofs.Attempts.{behind_where, always_none, then_mapped, then_then, then_same}
-use Rattle.wasm_validator_items.proofs.InitializersRead.{expression_is}
+use Rattle.wasm_validator_items.proofs.InitializerReads.{expression_is}
 use Rattle.wasm_validator_items.proofs.Lists.{list_is}
-use Rattle.wasm_validator_items.proofs.Renamed.{ref-renames}
+use Rattle.wasm_validator_items.proofs.EntryRenamings.{ref-renames}
 use Rattle.wasm_validator_items.proofs.WrittenTypes.{Resolves, written_resolves, funcref_resolves, val_is}
 
 -- a value beside what is behind

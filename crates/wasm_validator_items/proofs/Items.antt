@@ -9,16 +9,16 @@ use Rattle.wasm_spec.specs.BinarySections.{GlobalEntry, Data, SegmentMode, passi
 use Rattle.wasm_spec.specs.Features.{Features}
 use Rattle.wasm_spec_rules.specs.Contexts.{Context}
 use Rattle.wasm_spec_rules.specs.Parts.{Expression}
-use Rattle.wasm_readers.specs.Written.{written}
+use Rattle.wasm_readers.specs.WrittenIndices.{written}
 use Rattle.wasm_readers_types.specs.WasmReadersValues.declared.indices.UnpackedIndex.{UnpackedIndex}
 use Rattle.wasm_validator_resources.specs.Answers.{world, val_in}
 use Rattle.wasm_validator_segments.specs.WasmValidatorReferences.WasmSpecValidity.Expressions.{expression_at}
-use Rattle.wasm_validator_segments.proofs.WasmValidatorReferences.WasmSpecValidity.Whole.{expressions_are_whole}
+use Rattle.wasm_validator_segments.proofs.WasmValidatorReferences.WasmSpecValidity.WholeExpressions.{expressions_are_whole}
 use Rattle.wasm_validator_segments.specs.Data.{behind_data_mode, behind_data}
 use Rattle.wasm_validator_items.specs.Expressions.{around_constants, behind_expression}
 use Rattle.wasm_validator_segments.specs.Globals.{with_content, global_type_at, typed_global_at}
 use Rattle.wasm_validator_segments.specs.Offsets.{address_type, behind_memory_offset}
-use Rattle.wasm_validator_items.proofs.Finding.{are_found}
+use Rattle.wasm_validator_items.proofs.ConstantBytes.{are_found}
 use Rattle.wasm_validator_items.specs.Items.{IsTypedExpressionAt, ExpressionsAreTyped, IsTypedGlobalAt, GlobalsAreTyped, IsTypedDataModeIn, IsTypedDataAt, DataAreTyped}
 
 -- attempts that give something, taken apart

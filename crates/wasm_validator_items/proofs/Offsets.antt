@@ -13,7 +13,7 @@ use Rattle.wasm_validator_types.specs.Spaces.{Spaces}
 use Rattle.wasm_validator_items.specs.Machine.{context_of}
 use Rattle.wasm_validator_items.specs.Entries.{is_offset}
 use Rattle.wasm_validator_items.proofs.Attempts.{behind_where, always_none}
-use Rattle.wasm_validator_items.proofs.InitializersRead.{expression_is}
+use Rattle.wasm_validator_items.proofs.InitializerReads.{expression_is}
 
 module _ (F : Features) (declares : List (UnpackedIndex × Sub UnpackedIndex)) (s : Spaces) where
   -- an offset into what is there, if it is, whose addresses have so many bits

@@ -10,7 +10,7 @@ use Rattle.wasm_readers.specs.WasmReadersBytes.declared.binary_reader.BinaryRead
 use Rattle.wasm_validator_core.specs.declared.error.Error.{Error}
 use Rattle.wasm_validator_core.specs.declared.error.Error.TheVariants.{Refused, DuplicateExport, InFunction, OutOfMemory}
 use Rattle.wasm_validator_core.specs.Errors.{IsAt, IsMemory, lifted}
-use Rattle.wasm_validator_segments.specs.Checked.{StandsIn}
+use Rattle.wasm_validator_segments.specs.TypedInstructions.{StandsIn}
 use Rattle.wasm_validator_items.specs.Answers.{StandsBetween, StandsBehind}
 
 module _ {A : Type 0} where

@@ -15,7 +15,7 @@ use Rattle.wasm_validator_types.specs.Spaces.{Spaces}
 use Rattle.wasm_validator_core.specs.declared.limits.TheConstants.{MAX_DATA_SEGMENTS}
 use Rattle.wasm_validator_items.specs.Machine.{context_of, items_from, data_step}
 use Rattle.wasm_validator_items.specs.Entries.{is_offset, may_be_stored, add_data}
-use Rattle.wasm_validator_items.specs.Reading.{DataAreReadAndAdded}
+use Rattle.wasm_validator_items.specs.OnePassSections.{DataAreReadAndAdded}
 use Rattle.wasm_validator_items.proofs.Attempts.{behind_where, beside, added, then_mapped, then_then, then_same, map_then}
 use Rattle.wasm_validator_items.proofs.Offsets.{memory_offset_is}
 use Rattle.wasm_validator_items.proofs.StepsInTurn.{section_is_added}

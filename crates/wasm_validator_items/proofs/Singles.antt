@@ -1,12 +1,12 @@
 -- Single items, and the sections that they make.
 use Rattle.std.proofs.Common.{refl}
 use Rattle.wasm_validator_items.specs.Sections.{read_one}
-use Rattle.wasm_validator_items.specs.Reading.{ItemsAreReadAndAdded, SectionsAddSingleItems}
-use Rattle.wasm_validator_items.proofs.ElementsRead.{element_is_added}
-use Rattle.wasm_validator_items.proofs.GlobalsRead.{global_is_added}
+use Rattle.wasm_validator_items.specs.OnePassSections.{ItemsAreReadAndAdded, SectionsAddSingleItems}
+use Rattle.wasm_validator_items.proofs.ElementReads.{element_is_added}
+use Rattle.wasm_validator_items.proofs.GlobalReads.{global_is_added}
 use Rattle.wasm_validator_items.proofs.Segments.{data_is_added}
 use Rattle.wasm_validator_items.proofs.StepsInTurn.{each_is_added}
-use Rattle.wasm_validator_items.proofs.TablesRead.{table_is_added}
+use Rattle.wasm_validator_items.proofs.TableReads.{table_is_added}
 
 pub items_are_added : ItemsAreReadAndAdded
 items_are_added = record {

@@ -6,7 +6,7 @@ use Rattle.wasm_spec.specs.Syntax.{Sub, Val, Table, Global, map_table, map_globa
 use Rattle.wasm_spec.specs.BinaryTypes.{global_at}
 use Rattle.wasm_spec.specs.Features.{Features}
 use Rattle.wasm_readers.specs.Tables.{Head, table_head_at}
-use Rattle.wasm_readers.specs.Written.{written}
+use Rattle.wasm_readers.specs.WrittenIndices.{written}
 use Rattle.wasm_readers_types.specs.WasmReadersValues.declared.indices.UnpackedIndex.{UnpackedIndex}
 use Rattle.wasm_validator_core.specs.WasmValidatorCanonical.Indices.{canonical_index}
 use Rattle.wasm_validator_core.specs.WasmValidatorChecks.Items.{is_valid_defined_table, is_valid_global}

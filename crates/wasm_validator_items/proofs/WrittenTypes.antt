@@ -9,7 +9,7 @@ use Rattle.wasm_spec.specs.BinarySections.{funcref}
 use Rattle.wasm_spec.specs.ValueTypes.{allows_ref}
 use Rattle.wasm_spec.specs.Features.{Features}
 use Rattle.wasm_spec_rules.specs.Signatures.{resolve_heap}
-use Rattle.wasm_readers.specs.Written.{written}
+use Rattle.wasm_readers.specs.WrittenIndices.{written}
 use Rattle.wasm_readers_types.specs.WasmReadersValues.declared.indices.UnpackedIndex.{UnpackedIndex}
 use Rattle.wasm_readers_types.specs.WasmReadersValues.declared.indices.UnpackedIndex.TheVariants.{Id}
 use Rattle.wasm_validator_core.specs.WasmValidatorCanonical.Indices.{use_of_index, canonical_index}

@@ -7,12 +7,12 @@ use Rattle.wasm_spec.specs.Features.{Features}
 use Rattle.wasm_spec_rules.specs.Contexts.{Context}
 use Rattle.wasm_spec_rules.specs.Parts.{Expression}
 use Rattle.wasm_spec_rules.specs.SegmentRules.{index_or_first}
-use Rattle.wasm_readers.specs.Written.{written}
+use Rattle.wasm_readers.specs.WrittenIndices.{written}
 use Rattle.wasm_readers_types.specs.WasmReadersValues.declared.indices.UnpackedIndex.{UnpackedIndex}
 use Rattle.wasm_validator_segments.specs.WasmValidatorReferences.WasmSpecValidity.WasmOperators.Control.{value_block}
-use Rattle.wasm_validator_segments.specs.WasmValidatorReferences.WasmSpecValidity.WasmOperatorSteps.ConstantRules.{IsConstantExpression}
-use Rattle.wasm_validator_segments.specs.WasmValidatorReferences.WasmSpecValidity.WasmOperatorSteps.Machine.{State}
-use Rattle.wasm_validator_segments.specs.WasmValidatorReferences.WasmSpecValidity.WasmOperatorSteps.Steps.{start}
+use Rattle.wasm_validator_segments.specs.WasmValidatorReferences.WasmSpecValidity.WasmSpecSteps.ConstantRules.{IsConstantExpression}
+use Rattle.wasm_validator_segments.specs.WasmValidatorReferences.WasmSpecValidity.WasmSpecSteps.Machine.{State}
+use Rattle.wasm_validator_segments.specs.WasmValidatorReferences.WasmSpecValidity.WasmSpecSteps.Steps.{start}
 use Rattle.wasm_validator_resources.specs.Answers.{world, val_in}
 use Rattle.wasm_validator_segments.specs.WasmValidatorReferences.WasmSpecValidity.Expressions.{expression_at}
 use Rattle.wasm_validator_segments.specs.Data.{behind_data}

@@ -4,10 +4,10 @@ pub use Rattle.wasm_validator_core.specs as WasmValidatorCore
 pub use Rattle.wasm_validator_segments.specs.Expressions
 pub mod Machine
 pub mod Answers
-pub mod Telling
-pub mod Adding
+pub mod SectionRefusals
+pub mod ItemSteps
 pub mod Sections
 pub mod Entries
 pub mod Items
 pub mod Maps
-pub mod Reading
+pub mod OnePassSections

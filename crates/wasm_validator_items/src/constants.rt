@@ -3,7 +3,7 @@
 ghost use Rattle.std.specs.Prelude.{◌≡◌, [], IfOk, OnOk};
 ghost use Rattle.wasm_spec.specs.TypeLaws.{HasNoRepetition};
 ghost use Rattle.wasm_validator_types.specs.WasmValidatorTypeList.DefTypes.{types_of_list};
-ghost use Rattle.wasm_validator_types.specs.WasmValidatorTypeList.Listable.{AreListable};
+ghost use Rattle.wasm_validator_types.specs.WasmValidatorTypeList.GroupOrder.{AreListable};
 ghost use Rattle.wasm_validator_core_resources.specs.ById.{AreFirstByIds};
 ghost use Rattle.wasm_validator_core_resources.specs.ModuleContexts.{AreByIds};
 

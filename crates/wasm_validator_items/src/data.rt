@@ -4,7 +4,7 @@ ghost use Rattle.std.specs.Prelude.{◌≡◌, ◌≤◌, ℕ, List, ⊤, IfOk, 
 ghost use Rattle.std.specs.declared.option.Option.TheVariants.{Some};
 ghost use Rattle.wasm_spec_rules.specs.FeatureFlags.{features_of};
 ghost use Rattle.wasm_readers.specs.WasmReadersBytes.Reader.{SameInput, position_in, rest};
-ghost use Rattle.wasm_validator_core.specs.Ready.{AreHeld};
+ghost use Rattle.wasm_validator_core.specs.OpenLists.{AreHeld};
 ghost use Rattle.wasm_validator_core_resources.specs.IndexContexts.{id_of};
 ghost use Rattle.wasm_validator_core_resources.specs.ListContexts.{list_declares};
 ghost use Rattle.wasm_validator_core_resources.specs.ModuleContexts.{AreByIds};
@@ -13,7 +13,7 @@ ghost use Rattle.wasm_validator_items.specs.Machine.{data_step};
 ghost use Rattle.wasm_readers_errors.specs.WasmReadersFeatures.declared.features.WasmFeatures.{WasmFeatures};
 ghost use Rattle.wasm_readers_errors.specs.declared.error.Counted.TheVariants as counted;
 ghost use Rattle.wasm_readers_types.specs.declared.types.SubType.{SubType};
-ghost use Rattle.wasm_validator_types.specs.WasmValidatorTypeList.Listing.{Listing};
+ghost use Rattle.wasm_validator_types.specs.WasmValidatorTypeList.ListViews.{Listing};
 ghost use Rattle.wasm_validator_types.specs.Spaces.{Spaces};
 ghost use Rattle.wasm_validator_core.specs.declared.limits.TheConstants.{MAX_DATA_SEGMENTS};
 ghost use Rattle.wasm_validator_types.specs.WasmValidatorTypeList.DefTypes.{types_of_list};

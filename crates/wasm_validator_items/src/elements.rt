@@ -7,7 +7,7 @@ ghost use Rattle.wasm_readers.specs.WasmReadersBytes.Reader.{SameInput, position
 ghost use Rattle.wasm_readers_types.specs.WasmReadersValues.SeenValues.{val_of};
 ghost use Rattle.wasm_validator_core.specs.Answers.{Adds};
 ghost use Rattle.wasm_validator_core.specs.Errors.{IsMemory};
-ghost use Rattle.wasm_validator_core.specs.Ready.{AreHeld};
+ghost use Rattle.wasm_validator_core.specs.OpenLists.{AreHeld};
 ghost use Rattle.wasm_validator_core_resources.specs.IndexContexts.{id_of};
 ghost use Rattle.wasm_validator_core_resources.specs.ListContexts.{list_declares};
 ghost use Rattle.wasm_validator_core_resources.specs.ModuleContexts.{AreByIds};
@@ -19,10 +19,10 @@ ghost use Rattle.wasm_validator_items.specs.Machine.{context_of, with_items, ele
 ghost use Rattle.wasm_readers_errors.specs.WasmReadersFeatures.declared.features.WasmFeatures.{WasmFeatures};
 ghost use Rattle.wasm_readers_errors.specs.declared.error.Counted.TheVariants as counted;
 ghost use Rattle.wasm_readers_types.specs.declared.types.SubType.{SubType};
-ghost use Rattle.wasm_validator_types.specs.WasmValidatorTypeList.Listing.{Listing};
+ghost use Rattle.wasm_validator_types.specs.WasmValidatorTypeList.ListViews.{Listing};
 ghost use Rattle.wasm_validator_types.specs.Spaces.{Spaces};
 ghost use Rattle.wasm_validator_types.specs.WasmValidatorTypeList.DefTypes.{types_of_list};
-ghost use Rattle.wasm_validator_items.specs.Adding.{naming_step};
+ghost use Rattle.wasm_validator_items.specs.ItemSteps.{naming_step};
 
 use crate::section_items::{ItemLimit, SectionItem};
 use std::alloc::Allocator;

@@ -3,7 +3,7 @@
 ghost use Rattle.std.specs.Prelude.{◌≡◌, ◌≤◌, ℕ, List, Bool, length, ⊤, is_ok, IfOk, OnOk, IfErr};
 ghost use Rattle.std.specs.declared.option.Option.TheVariants.{Some};
 ghost use Rattle.wasm_spec.specs.Syntax.{map_global};
-ghost use Rattle.wasm_readers.specs.Written.{written};
+ghost use Rattle.wasm_readers.specs.WrittenIndices.{written};
 ghost use Rattle.wasm_readers_types.specs.WasmReadersValues.declared.indices.UnpackedIndex.{UnpackedIndex};
 ghost use Rattle.wasm_spec_rules.specs.FeatureFlags.{features_of};
 ghost use Rattle.wasm_readers.specs.WasmReadersBytes.Reader.{SameInput, position_in, rest};
@@ -13,7 +13,7 @@ ghost use Rattle.wasm_validator_core.specs.WasmValidatorCanonical.Indices.{canon
 ghost use Rattle.wasm_validator_core.specs.WasmValidatorChecks.Answers.{IsRefusalAt};
 ghost use Rattle.wasm_validator_core.specs.WasmValidatorChecks.Items.{is_valid_global};
 ghost use Rattle.wasm_validator_core.specs.Items.{types_of_module};
-ghost use Rattle.wasm_validator_core.specs.Ready.{AreHeld};
+ghost use Rattle.wasm_validator_core.specs.OpenLists.{AreHeld};
 ghost use Rattle.wasm_validator_core_resources.specs.IndexContexts.{id_of};
 ghost use Rattle.wasm_validator_core_resources.specs.ListContexts.{list_declares};
 ghost use Rattle.wasm_validator_core_resources.specs.ModuleContexts.{AreByIds};
@@ -23,10 +23,10 @@ ghost use Rattle.wasm_validator_items.specs.Machine.{global_step};
 ghost use Rattle.wasm_readers_errors.specs.WasmReadersFeatures.declared.features.WasmFeatures.{WasmFeatures};
 ghost use Rattle.wasm_readers_errors.specs.declared.error.Counted.TheVariants as counted;
 ghost use Rattle.wasm_readers_types.specs.declared.types.SubType.{SubType};
-ghost use Rattle.wasm_validator_types.specs.WasmValidatorTypeList.Listing.{Listing};
+ghost use Rattle.wasm_validator_types.specs.WasmValidatorTypeList.ListViews.{Listing};
 ghost use Rattle.wasm_validator_types.specs.Spaces.{Spaces};
 ghost use Rattle.wasm_validator_core.specs.declared.limits.TheConstants.{MAX_GLOBALS};
-ghost use Rattle.wasm_validator_items.specs.Adding.{naming_step};
+ghost use Rattle.wasm_validator_items.specs.ItemSteps.{naming_step};
 
 use crate::initializers::check_initializer;
 use crate::section_items::{ItemLimit, SectionItem};

@@ -10,7 +10,7 @@ ghost use Rattle.wasm_spec.specs.Features.{Features};
 ghost use Rattle.wasm_spec_rules.specs.Contexts.{Context};
 ghost use Rattle.wasm_readers_types.specs.WasmReadersValues.declared.indices.UnpackedIndex.{UnpackedIndex};
 ghost use Rattle.wasm_validator_items.specs.Items.{ExpressionsAreTyped, GlobalsAreTyped, DataAreTyped};
-ghost use Rattle.wasm_validator_items.specs.Reading.{DataAreReadAndAdded, ItemsAreReadAndAdded, SectionsAddSingleItems, EntriesAreRenamed};
+ghost use Rattle.wasm_validator_items.specs.OnePassSections.{DataAreReadAndAdded, ItemsAreReadAndAdded, SectionsAddSingleItems, EntriesAreRenamed};
 
 pub mod constants;
 mod data;

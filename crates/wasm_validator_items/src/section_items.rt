@@ -9,8 +9,8 @@ ghost use Rattle.wasm_readers.specs.SectionsSeen.{count_of, bytes_of, section_st
 ghost use Rattle.wasm_validator_items.specs.Answers.{StandsBetween, StandsBehind};
 ghost use Rattle.wasm_validator_core.specs.Answers.{AddsWhere};
 ghost use Rattle.wasm_validator_core.specs.declared.error.Error.{Error};
-ghost use Rattle.wasm_validator_items.specs.Telling.{OfContent, TellsCount};
-ghost use Rattle.wasm_validator_items.specs.Adding.{steps_of, TellsSteps};
+ghost use Rattle.wasm_validator_items.specs.SectionRefusals.{OfContent, TellsCount};
+ghost use Rattle.wasm_validator_items.specs.ItemSteps.{steps_of, TellsSteps};
 
 use std::alloc::Allocator;
 use wasm_readers::{BinaryReader, Counted, Fault, Malformed, Refusal, SectionLimited};

@@ -1,2 +1,2 @@
-pub mod Leading
+pub mod ReferenceTargets
 pub mod Signatures

@@ -7,9 +7,9 @@ use Rattle.wasm_spec.specs.Matching.{MatchesVal, MatchesComp}
 use Rattle.wasm_readers_types.specs.WasmReadersValues.SeenValues.{val_of}
 use Rattle.wasm_readers_types.specs.WasmReadersValues.declared.values.ValType.{ValType}
 use Rattle.wasm_readers_types.specs.declared.types.SubType.{SubType}
-use Rattle.wasm_validator_type_list.specs.Declares.{declares}
-use Rattle.wasm_validator_type_list.specs.Grouped.{leads_in, ValsMatch}
-use Rattle.wasm_validator_type_list.proofs.Grouped.{zip-seen, zip-unseen}
+use Rattle.wasm_validator_type_list.specs.DeclarationsById.{declares}
+use Rattle.wasm_validator_type_list.specs.GroupTypes.{leads_in, ValsMatch}
+use Rattle.wasm_validator_type_list.proofs.GroupMatching.{zip-seen, zip-unseen}
 use Rattle.wasm_validator_matches.specs.Parts.{vals_by_ids}
 
 module _ {A : Type 0} (gs : List (List (SubType A))) where

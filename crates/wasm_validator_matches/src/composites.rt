@@ -6,7 +6,7 @@ ghost use Rattle.std.specs.List.{All, AllZip};
 ghost use Rattle.wasm_spec.specs.References.{refs_val, refs_field, refs_comp};
 ghost use Rattle.wasm_readers_types.specs.WasmReadersValues.SeenValues.{val_of, field_of};
 ghost use Rattle.wasm_readers_types.specs.SeenTypes.{comp_of};
-ghost use Rattle.wasm_validator_type_list.specs.Grouped.{AreIn, ValsMatch, FieldListsMatch, CompsMatch};
+ghost use Rattle.wasm_validator_type_list.specs.GroupTypes.{AreIn, ValsMatch, FieldListsMatch, CompsMatch};
 ghost use Rattle.wasm_validator_matches.specs.Parts.{ListStands, SignaturesAgree};
 
 use crate::matches::Matches;

@@ -4,8 +4,8 @@ ghost use Rattle.std.specs.Prelude.{◌≡◌, ◌<◌, length};
 ghost use Rattle.wasm_spec.specs.Syntax.{map_heap, map_ref};
 ghost use Rattle.wasm_spec.specs.References.{refs_heap};
 ghost use Rattle.wasm_readers_types.specs.WasmReadersValues.SeenValues.{heap_of, ref_of};
-ghost use Rattle.wasm_validator_type_list.specs.Listing.{types_in};
-ghost use Rattle.wasm_validator_type_list.specs.Grouped.{leads_in, AreIn};
+ghost use Rattle.wasm_validator_type_list.specs.ListViews.{types_in};
+ghost use Rattle.wasm_validator_type_list.specs.GroupTypes.{leads_in, AreIn};
 ghost use Rattle.wasm_validator_type_list.specs.Subtyping.{IsHeapOver, IsRefOver, heap_by_ids, ref_by_ids};
 
 use std::alloc::Allocator;

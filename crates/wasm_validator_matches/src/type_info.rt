@@ -60,7 +60,7 @@ pub trait TypeIdentifier<A: Allocator>: Debug + Copy + Eq + Sized {
 
     ghost number: { Self → ℕ };
 
-    ghost use Rattle.wasm_validator_type_list.specs.Listing.{Listing};
+    ghost use Rattle.wasm_validator_type_list.specs.ListViews.{Listing};
 
     ghost all: { Listing A → List Self.Data };
 
@@ -111,7 +111,7 @@ fn inner_size<A: Allocator>(inner: &CompositeInnerType<A>) -> u32
 impl<A: Allocator + Copy> TypeIdentifier<A> for CoreTypeId {
     type Data = SubType<A>;
 
-    ghost use Rattle.wasm_validator_type_list.specs.Listing.{types_in};
+    ghost use Rattle.wasm_validator_type_list.specs.ListViews.{types_in};
 
     ghost number = { λ id. id.index };
 

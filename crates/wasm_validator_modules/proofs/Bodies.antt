@@ -7,18 +7,18 @@ use Rattle.wasm_readers_types.specs.WasmReadersValues.declared.indices.UnpackedI
 use Rattle.wasm_readers_errors.specs.declared.error.Error.{Error}
 use Rattle.wasm_readers_errors.specs.declared.error.Error.TheVariants.{Refused, OutOfMemory}
 use Rattle.wasm_validator_states.specs.WasmParser.declared.function_body.FunctionBody.{FunctionBody}
-use Rattle.wasm_validator_states.specs.WasmParser.Seen.{body_reader}
+use Rattle.wasm_validator_states.specs.WasmParser.PayloadViews.{body_reader}
 use Rattle.wasm_validator_states.specs.WasmValidatorSections.WasmValidatorFunc.declared.func_validator.FuncToValidate.{FuncToValidate}
 use Rattle.wasm_validator_states.specs.WasmValidatorSections.WasmValidatorFunc.Functions.{Refuses, StandsInOrFirst}
 use Rattle.wasm_validator_states.proofs.WholeModules.{one_of}
 use Rattle.wasm_validator_states.specs.WasmValidatorSections.WasmValidatorCore.declared.error.Error as whole
 use Rattle.wasm_validator_states.specs.WasmValidatorSections.WasmValidatorCore.Errors.{lifted_in}
-use Rattle.wasm_validator_states.specs.WasmValidatorSections.SectionsTold.{StandsBetween}
+use Rattle.wasm_validator_states.specs.WasmValidatorSections.SectionFaults.{StandsBetween}
 use Rattle.wasm_readers_errors.specs.WasmReadersFeatures.declared.features.WasmFeatures.{WasmFeatures}
 use Rattle.wasm_validator_states.specs.States.{BodyToValidate}
 use Rattle.wasm_validator_states.specs.Payloads.{IsBodyOfIts, DecidesBodies}
-use Rattle.wasm_validator_states.specs.Taken.{body_seen}
-use Rattle.wasm_validator_modules.specs.Given.{bodies_seen, pending_seen, pending_in, EndsBy, AllEndBy, GivenEndBy, StandsBy}
+use Rattle.wasm_validator_states.specs.BodyAnswers.{body_seen}
+use Rattle.wasm_validator_modules.specs.PayloadAnswers.{bodies_seen, pending_seen, pending_in, EndsBy, AllEndBy, GivenEndBy, StandsBy}
 use Rattle.wasm_validator_modules.specs.declared.payload.PendingBody.{PendingBody}
 use Rattle.wasm_validator_modules.specs.declared.payload.Bodies.{Bodies}
 use Rattle.wasm_validator_modules.specs.declared.payload.ValidPayload.{ValidPayload}

@@ -1,2 +1,2 @@
 -- What attributes name of the crate below.
-pub use Rattle.wasm_validator_states.proofs.HeldShown.{answer_held}
+pub use Rattle.wasm_validator_states.proofs.ShownTypeIds.{answer_held}

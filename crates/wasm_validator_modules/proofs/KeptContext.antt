@@ -15,14 +15,14 @@ use Rattle.wasm_validator_states.specs.WasmValidatorTypes.Spaces.{Spaces}
 use Rattle.wasm_validator_states.specs.WasmValidatorSections.WasmValidatorCore.Answers.{TypesSoFar}
 use Rattle.wasm_validator_states.specs.WasmValidatorSections.WasmValidatorFunc.declared.func_validator.FuncToValidate.{FuncToValidate}
 use Rattle.wasm_validator_states.specs.WasmValidatorSections.Machine.{section_items, start_item, data_count_item, beside}
-use Rattle.wasm_validator_states.specs.WasmValidatorSections.Noted.{Noted, naming, counting, noting_nothing}
-use Rattle.wasm_validator_states.specs.Standing.{Stage, unparsed, in_module, in_code, ended, failed, Standing, within, within_all, at_stage}
+use Rattle.wasm_validator_states.specs.WasmValidatorSections.ModuleNotes.{Noted, naming, counting, noting_nothing}
+use Rattle.wasm_validator_states.specs.ValidatorStages.{Stage, unparsed, in_module, in_code, ended, failed, Standing, within, within_all, at_stage}
 use Rattle.wasm_validator_states.specs.States.{BodyToValidate, begun, code_started, body_taken, module_ended, after_piece, next_function, body_with, body_at, handed}
-use Rattle.wasm_validator_states.specs.Taken.{body_seen}
-use Rattle.wasm_validator_modules.specs.Given.{bodies_given, IsKept, IsGivenIn, kept_behind}
+use Rattle.wasm_validator_states.specs.BodyAnswers.{body_seen}
+use Rattle.wasm_validator_modules.specs.PayloadAnswers.{bodies_given, IsKept, IsGivenIn, kept_behind}
 use Rattle.wasm_validator_modules.specs.declared.payload.ValidPayload.{ValidPayload}
 use Rattle.wasm_validator_modules.specs.declared.payload.ValidPayload.TheVariants.{Ok, Func, End}
-use Rattle.wasm_validator_states.proofs.Growing.{body_some}
+use Rattle.wasm_validator_states.proofs.ListGrowth.{body_some}
 
 -- The code has started with this context, and no body comes behind its end.
 abbrev pub IsIn : Context UnpackedIndex → Stage → Type 0

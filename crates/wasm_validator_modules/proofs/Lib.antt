@@ -1,12 +1,12 @@
 pub use Rattle.wasm_validator_states.proofs.WasmValidatorCanonical as WasmValidatorCanonical
 pub use Rattle.wasm_validator_states.proofs.WasmLawsCore as WasmLawsCore
-pub use Rattle.wasm_validator_states.proofs.Growing
+pub use Rattle.wasm_validator_states.proofs.ListGrowth
 pub use Rattle.wasm_validator_states.proofs.Resets
-pub use Rattle.wasm_validator_states.proofs.TableKept
-pub use Rattle.wasm_validator_states.proofs.HeldShown
-pub use Rattle.wasm_validator_states.proofs.Stays
+pub use Rattle.wasm_validator_states.proofs.TableSteps
+pub use Rattle.wasm_validator_states.proofs.ShownTypeIds
+pub use Rattle.wasm_validator_states.proofs.UnmovedValidators
 pub mod Cited
 pub mod Runs
 pub mod Bodies
-pub mod Gathering
+pub mod BodyPayloads
 pub mod KeptContext

@@ -7,7 +7,7 @@ use Rattle.wasm_spec.specs.Framing.{Piece, IsFramed, Version, Custom, Counted, S
 use Rattle.wasm_validator_states.specs.WasmParser.Machine.{State, start, next_of, Run, Given}
 use Rattle.wasm_readers_errors.specs.declared.error.Refusal.{Refusal}
 use Rattle.wasm_validator_states.proofs.WasmParser.Law.{run_framed, framed_run}
-use Rattle.wasm_validator_states.proofs.WasmParser.Onward.{front, grows, ends, stuck}
+use Rattle.wasm_validator_states.proofs.WasmParser.RunFronts.{front, grows, ends, stuck}
 use Rattle.wasm_validator_states.specs.WasmValidatorTypes.declared.shown.Types.{Types}
 use Rattle.wasm_validator_modules.specs.declared.payload.ValidPayload.{ValidPayload}
 use Rattle.wasm_validator_modules.specs.declared.payload.ValidPayload.TheVariants.{Ok, Func, End}
@@ -18,14 +18,14 @@ use Rattle.wasm_validator_states.specs.WasmValidatorSections.WasmValidatorCore.d
 use Rattle.wasm_spec_rules.proofs.Tests.{then_some}
 use Rattle.wasm_validator_states.specs.WasmValidatorSections.WasmValidatorCore.Answers.{IsNowhere}
 use Rattle.wasm_validator_states.specs.WasmValidatorSections.WasmValidatorCore.Errors.{IsContent}
-use Rattle.wasm_validator_states.specs.WasmValidatorSections.Started.{starting}
-use Rattle.wasm_validator_states.specs.Standing.{Stage, unparsed, in_module, in_code, ended, failed, Standing, at_stage, HoldsValid, Leaves, IsEnded, HasNotEnded}
+use Rattle.wasm_validator_states.specs.WasmValidatorSections.CodeProgress.{starting}
+use Rattle.wasm_validator_states.specs.ValidatorStages.{Stage, unparsed, in_module, in_code, ended, failed, Standing, at_stage, HoldsValid, Leaves, IsEnded, HasNotEnded}
 use Rattle.wasm_validator_states.specs.States.{after_piece, BodyToValidate, code_started, body_taken, body_at, handed, IsBeforeEnd, left_by, takes_memory, code_count}
 use Rattle.wasm_validator_states.specs.Payloads.{Show, after_all, handed_behind, all_handed, Runs, Rejects, HasTaken, IsToldOfFormat, IsLeft, IsBehindCode, IsOutOfMemory, Validates}
-use Rattle.wasm_validator_states.specs.Taken.{body_seen}
-use Rattle.wasm_validator_modules.specs.Given.{ShowsModule, IsFunction, KeepsBodies, bodies_given, latest_of, TellsFormat}
-use Rattle.wasm_validator_states.specs.WasmValidatorSections.SectionsTold.{StandsBetween}
-use Rattle.wasm_validator_states.proofs.Growing.{body_some}
+use Rattle.wasm_validator_states.specs.BodyAnswers.{body_seen}
+use Rattle.wasm_validator_modules.specs.PayloadAnswers.{ShowsModule, IsFunction, KeepsBodies, bodies_given, latest_of, TellsFormat}
+use Rattle.wasm_validator_states.specs.WasmValidatorSections.SectionFaults.{StandsBetween}
+use Rattle.wasm_validator_states.proofs.ListGrowth.{body_some}
 use Rattle.wasm_readers_errors.specs.WasmReadersFeatures.declared.features.WasmFeatures.{WasmFeatures}
 use Rattle.std.proofs.lemmas.Option.{same_Some}
 use Rattle.wasm_validator_states.proofs.ValidTypes.{all_back}

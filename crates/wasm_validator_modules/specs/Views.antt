@@ -4,7 +4,7 @@ use Rattle.wasm_validator_states.specs.WasmValidatorTypeList.DefTypes.{types_of_
 use Rattle.wasm_validator_states.specs.WasmParser.declared.payload.Encoding.{Encoding}
 use Rattle.wasm_validator_states.specs.WasmParser.declared.payload.Encoding.TheVariants as encodings
 use Rattle.wasm_validator_states.specs.Views.{stage_of}
-use Rattle.wasm_validator_states.specs.Standing.{Standing}
+use Rattle.wasm_validator_states.specs.ValidatorStages.{Standing}
 use Rattle.wasm_validator_modules.specs.declared.validator.Validator.TheInside.{Inside}
 
 module _ {A : Type 0} where

@@ -16,17 +16,17 @@ ghost use Rattle.std.specs.Prelude.{ℕ, true, false, ◌≡◌, ◌≤◌, ◌+
 ghost use Rattle.std.specs.Option.{option_map};
 ghost use Rattle.wasm_validator_states.specs.WasmParser.Machine.{next_of};
 ghost use Rattle.wasm_validator_states.specs.WasmParser.Places.{starts_at, ends_at, reader_end, input_end, refused_with, ReadsInput};
-ghost use Rattle.wasm_validator_states.specs.WasmParser.Seen.{seen, state, body_of, body_reader};
+ghost use Rattle.wasm_validator_states.specs.WasmParser.PayloadViews.{seen, state, body_of, body_reader};
 ghost use Rattle.wasm_spec.specs.Framing.{CodeEntry};
-ghost use Rattle.wasm_validator_states.specs.WasmValidatorSections.SectionsTold.{StandsBetween};
+ghost use Rattle.wasm_validator_states.specs.WasmValidatorSections.SectionFaults.{StandsBetween};
 ghost use Rattle.wasm_validator_states.specs.WasmValidatorSections.WasmValidatorCore.Errors.{IsContent};
-ghost use Rattle.wasm_validator_states.specs.WasmValidatorTypes.Shown.{shown_of, HoldsIds};
-ghost use Rattle.wasm_validator_states.specs.Standing.{Leaves};
+ghost use Rattle.wasm_validator_states.specs.WasmValidatorTypes.ShownModules.{shown_of, HoldsIds};
+ghost use Rattle.wasm_validator_states.specs.ValidatorStages.{Leaves};
 ghost use Rattle.wasm_validator_states.specs.WasmValidatorSections.WasmValidatorFunc.Functions.{Decides, StandsInOrFirst};
 ghost use Rattle.wasm_validator_states.specs.States.{after_piece, handed, left_by, takes_memory, IsSection};
 ghost use Rattle.wasm_validator_states.specs.Payloads.{HoldsTypes, IsBodyOfIts, DecidesBodies, Validates};
-ghost use Rattle.wasm_validator_modules.specs.Given.{ShowsModule, HoldsIdsAtEnd, KeepsBodies, IsKept, IsGivenIn, kept_behind, latest_of, bodies_given, bodies_seen, pending_seen, EndsBy, EachEndsBy, AllEndBy, GivenEndBy, GoesWith, Gathers, GathersNothing, StandsAt, TellsFormat};
-ghost use Rattle.wasm_validator_states.specs.Taken.{body_seen};
+ghost use Rattle.wasm_validator_modules.specs.PayloadAnswers.{ShowsModule, HoldsIdsAtEnd, KeepsBodies, IsKept, IsGivenIn, kept_behind, latest_of, bodies_given, bodies_seen, pending_seen, EndsBy, EachEndsBy, AllEndBy, GivenEndBy, GoesWith, Gathers, GathersNothing, StandsAt, TellsFormat};
+ghost use Rattle.wasm_validator_states.specs.BodyAnswers.{body_seen};
 ghost use Rattle.wasm_validator_states.specs.Verdict.{DecidesModule, DecidesAlone, EndsModule, StopsModule};
 
 use crate::validator::Validator;

@@ -36,22 +36,22 @@ ghost use Rattle.wasm_readers.specs.WasmReadersBytes.Reader.{original, position_
 ghost use Rattle.wasm_readers_errors.specs.Refusals.{plain};
 ghost use Rattle.wasm_spec_rules.specs.FeatureFlags.{features_of};
 ghost use Rattle.wasm_readers.specs.SectionsSeen.{count_of, bytes_of, section_start, section_end};
-ghost use Rattle.wasm_validator_states.specs.WasmParser.Seen.{body_of, body_reader};
+ghost use Rattle.wasm_validator_states.specs.WasmParser.PayloadViews.{body_of, body_reader};
 ghost use Rattle.wasm_validator_states.specs.WasmValidatorSections.WasmValidatorCore.Answers.{TypesSoFar};
 ghost use Rattle.wasm_validator_states.specs.WasmValidatorSections.declared.code_state.TheConstants.{MAX_FUNCTION_SIZE};
-ghost use Rattle.wasm_validator_states.specs.WasmValidatorTypeList.Interned.{AreOnce};
-ghost use Rattle.wasm_validator_states.specs.WasmValidatorTypeList.Listing.{Listing, committed};
+ghost use Rattle.wasm_validator_states.specs.WasmValidatorTypeList.GroupInterning.{AreOnce};
+ghost use Rattle.wasm_validator_states.specs.WasmValidatorTypeList.ListViews.{Listing, committed};
 ghost use Rattle.wasm_readers_types.specs.declared.types.SubType.{SubType};
-ghost use Rattle.wasm_validator_states.specs.Ready.{AreIdsIn, AreValidIn, AreFirstIn};
+ghost use Rattle.wasm_validator_states.specs.ModuleInvariants.{AreIdsIn, AreValidIn, AreFirstIn};
 ghost use Rattle.wasm_validator_states.specs.WasmValidatorTypeList.DefTypes.{types_of_list};
-ghost use Rattle.wasm_validator_states.specs.WasmValidatorTypes.Shown.{shown_of, shown_by, HoldsIds};
+ghost use Rattle.wasm_validator_states.specs.WasmValidatorTypes.ShownModules.{shown_of, shown_by, HoldsIds};
 ghost use Rattle.wasm_validator_states.specs.Payloads.{Show};
-ghost use Rattle.wasm_validator_states.specs.Taken.{body_seen};
-ghost use Rattle.wasm_validator_states.specs.Standing.{HoldsValid, Leaves, Moves, read_refused_at, body_refused_at, ended_at, fresh, is_failed, may_reset, after_reset, shown_at};
+ghost use Rattle.wasm_validator_states.specs.BodyAnswers.{body_seen};
+ghost use Rattle.wasm_validator_states.specs.ValidatorStages.{HoldsValid, Leaves, Moves, read_refused_at, body_refused_at, ended_at, fresh, is_failed, may_reset, after_reset, shown_at};
 ghost use Rattle.wasm_validator_states.specs.Verdict.{StandsApart};
-ghost use Rattle.wasm_validator_states.specs.Taken.{body_told};
-ghost use Rattle.wasm_validator_states.specs.OrderTold.{TellsWithin, TellsReading, TellsOrder, TellsTagSection, TellsStart, TellsDataCount, header_told, end_order_told};
-ghost use Rattle.wasm_validator_states.specs.WasmValidatorSections.SectionsTold.{OfContent, StandsBetween, TellsTypes, TellsImports, TellsExports, TellsFunctions, TellsTables, TellsMemories, TellsGlobals, TellsElements, TellsData};
+ghost use Rattle.wasm_validator_states.specs.BodyAnswers.{body_told};
+ghost use Rattle.wasm_validator_states.specs.OrderRefusals.{TellsWithin, TellsReading, TellsOrder, TellsTagSection, TellsStart, TellsDataCount, header_told, end_order_told};
+ghost use Rattle.wasm_validator_states.specs.WasmValidatorSections.SectionFaults.{OfContent, StandsBetween, TellsTypes, TellsImports, TellsExports, TellsFunctions, TellsTables, TellsMemories, TellsGlobals, TellsElements, TellsData};
 ghost use Rattle.wasm_validator_states.specs.States.{after_version, after_section, section_refused_at, after_start, after_data_count, after_code_start, body_at, after_body, after_end};
 ghost use Rattle.wasm_validator_states.specs.Views.{open_of, read_of, ended_spaces, stage_of, order_at, end_order_at, body_order_at, state_kept};
 ghost use Rattle.wasm_validator_modules.specs.Views.{is_module};
@@ -70,9 +70,8 @@ use wasm_validator_states::sections::validator_core::{Error, check_data_count};
 use wasm_validator_states::sections::validator_core_resources::ValidatorResources;
 use wasm_validator_states::sections::validator_func::FuncToValidate;
 use wasm_validator_states::sections::{
-    Constants, ModuleState, add_functions, add_imports, add_memories, add_tags, add_types,
-    check_data_segments, started, take_elements, take_exports, take_globals, take_tables,
-    tells_types_apart,
+    Constants, ModuleState, add_elements, add_exports, add_functions, add_globals, add_imports,
+    add_memories, add_tables, add_tags, add_types, check_data_segments, started, tells_types_apart,
 };
 use wasm_validator_states::state::{
     State, close_module, find_spaces, finish_types, out_of_order, put_back, take_body, take_module,
@@ -106,7 +105,7 @@ impl<A: Allocator> Drop for Validator<A> {
 }
 
 impl<A: Allocator> Model for Validator<A> {
-    ghost use Rattle.wasm_validator_states.specs.Standing.{Standing};
+    ghost use Rattle.wasm_validator_states.specs.ValidatorStages.{Standing};
 
     ghost Value = { Standing };
 
@@ -118,7 +117,7 @@ impl<A: Allocator> Model for Validator<A> {
 
     ghost view = { standing_of };
 
-    ghost use Rattle.wasm_validator_modules.specs.Ready.{IsSound};
+    ghost use Rattle.wasm_validator_modules.specs.ValidatorInvariants.{IsSound};
 
     ghost invariant = { IsSound };
 }
@@ -373,7 +372,7 @@ impl<A: Allocator + Copy> Validator<A> {
     {
         match take_module(&mut self.state, section.range().start) {
             Ok(mut state) => {
-                let added = take_exports(
+                let added = add_exports(
                     self.features,
                     self.alloc,
                     &self.types,
@@ -436,7 +435,7 @@ impl<A: Allocator + Copy> Validator<A> {
     {
         match take_module(&mut self.state, section.range().start) {
             Ok(mut state) => {
-                let added = take_tables(
+                let added = add_tables(
                     self.features,
                     &self.types,
                     &mut self.constants,
@@ -542,7 +541,7 @@ impl<A: Allocator + Copy> Validator<A> {
     {
         match take_module(&mut self.state, section.range().start) {
             Ok(mut state) => {
-                let added = take_globals(
+                let added = add_globals(
                     self.features,
                     &self.types,
                     &mut self.constants,
@@ -603,7 +602,7 @@ impl<A: Allocator + Copy> Validator<A> {
     {
         match take_module(&mut self.state, section.range().start) {
             Ok(mut state) => {
-                let added = take_elements(
+                let added = add_elements(
                     self.features,
                     &self.types,
                     &mut self.constants,

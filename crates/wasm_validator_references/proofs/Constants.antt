@@ -12,20 +12,20 @@ use Rattle.wasm_spec_validity.specs.WasmOperators.Control.{Control, end_, value_
 use Rattle.wasm_spec_validity.specs.WasmOperators.References as references
 use Rattle.wasm_spec_validity.specs.WasmOperators.Instructions as instruction
 use Rattle.wasm_spec_validity.specs.WasmOperators.Instructions.{Instruction, control}
-use Rattle.wasm_spec_validity.specs.WasmOperatorSteps.WasmSpecRules.Worlds.{world_of}
-use Rattle.wasm_spec_validity.specs.WasmOperatorSteps.Bodies.{Surroundings}
-use Rattle.wasm_spec_validity.specs.WasmOperatorSteps.Machine.{Operand, bottom, bottom_reference, open_reference, known, block_kind, Frame, State, pop_any, pop_vals, matches_operand}
-use Rattle.wasm_spec_validity.specs.WasmOperatorSteps.Meanings.{address, pop_frame, leave_in, run}
-use Rattle.wasm_spec_validity.specs.WasmOperatorSteps.Steps.{start, is_open, is_finished, step_in, steps_in}
-use Rattle.wasm_spec_validity.specs.WasmOperatorSteps.ConstantExpressions.{is_constant, gives_reference, takes_no_reference, is_reference, is_number, makes_structure, makes_array, IsLeft, none_taken, one_taken, GivesOne, GivesOneReference}
-use Rattle.wasm_spec_validity.specs.WasmOperatorSteps.ConstantRules.{is_allowed, is_readable}
-use Rattle.wasm_spec_validity.specs.WasmOperatorSteps.Laws.{ReferencesAreCounted}
-use Rattle.wasm_spec_validity.proofs.WasmOperatorSteps.ConstantReferences.{constants_give_references}
+use Rattle.wasm_spec_validity.specs.WasmSpecSteps.WasmSpecRules.Worlds.{world_of}
+use Rattle.wasm_spec_validity.specs.WasmSpecSteps.Bodies.{Surroundings}
+use Rattle.wasm_spec_validity.specs.WasmSpecSteps.Machine.{Operand, bottom, bottom_reference, open_reference, known, block_kind, Frame, State, pop_any, pop_vals, matches_operand}
+use Rattle.wasm_spec_validity.specs.WasmSpecSteps.Meanings.{address, pop_frame, leave_in, run}
+use Rattle.wasm_spec_validity.specs.WasmSpecSteps.Steps.{start, is_open, is_finished, step_in, steps_in}
+use Rattle.wasm_spec_validity.specs.WasmSpecSteps.ConstantExpressions.{is_constant, gives_reference, takes_no_reference, is_reference, is_number, makes_structure, makes_array, IsLeft, none_taken, one_taken, GivesOne, GivesOneReference}
+use Rattle.wasm_spec_validity.specs.WasmSpecSteps.ConstantRules.{is_allowed, is_readable}
+use Rattle.wasm_spec_validity.specs.WasmSpecSteps.Laws.{ReferencesAreCounted}
+use Rattle.wasm_spec_validity.proofs.WasmSpecSteps.ConstantReferences.{constants_give_references}
 use Rattle.wasm_spec_validity.specs.Expressions.{is_end, functions_named, named}
 use Rattle.wasm_spec_validity.specs.Typing.{seeing, around}
-use Rattle.wasm_spec_validity.proofs.Determined.{determined}
+use Rattle.wasm_spec_validity.proofs.ExpressionTests.{determined}
 use Rattle.wasm_spec_validity.proofs.Frames.{bind-gives, guard-gives, step-runs, step-keeps, end-frames}
-use Rattle.wasm_validator_references.specs.Naming.{NumbersNameNoFunctions}
+use Rattle.wasm_validator_references.specs.NamedFunctions.{NumbersNameNoFunctions}
 
 none : {P X : Type 0} (x : X) → None ≡ Some x → P
 none x e = absurd cc

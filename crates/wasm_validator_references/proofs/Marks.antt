@@ -1,6 +1,6 @@
 -- Flags that are set one after another.
 use Rattle.std.proofs.Common.{◌≡◌, refl, sym, ap, ◌∙◌, ℕ, zero, suc, ◌==◌, ◌<◌, Bool, true, false, ◌||◌, List, [], ◌∷◌, ◌++◌, length, get_or, set, arith}
-use Rattle.wasm_spec_validity.specs.WasmOperatorSteps.WasmSpecRules.Attempts.{among}
+use Rattle.wasm_spec_validity.specs.WasmSpecSteps.WasmSpecRules.Attempts.{among}
 use Rattle.wasm_validator_references.specs.References.{mark}
 use Rattle.wasm_validator_references.specs.Marks.{MarkedFlagsSayNames}
 

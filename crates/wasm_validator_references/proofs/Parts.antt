@@ -6,9 +6,9 @@ use Rattle.std.proofs.lemmas.List.Concat.{flat_map-append}
 use Rattle.std.proofs.lemmas.List.Elements.{All-head, All-tail}
 use Rattle.std.proofs.lemmas.List.Folds.{flat_map-map}
 use Rattle.wasm_spec.specs.BinarySections.{TableEntry, GlobalEntry, Element, ElementItems, functions, expressions, Data, SegmentMode, passive, active, declarative}
-use Rattle.wasm_spec_validity.specs.WasmOperatorSteps.WasmSpecRules.Attempts.{among}
-use Rattle.wasm_spec_validity.specs.WasmOperatorSteps.WasmSpecRules.LinkRules.{exported_functions, listed_functions, referenced}
-use Rattle.wasm_spec_validity.specs.WasmOperatorSteps.WasmSpecRules.Parts.{Parts, Expression, mode_expressions, items_expressions, table_expressions, expressions_of}
+use Rattle.wasm_spec_validity.specs.WasmSpecSteps.WasmSpecRules.Attempts.{among}
+use Rattle.wasm_spec_validity.specs.WasmSpecSteps.WasmSpecRules.LinkRules.{exported_functions, listed_functions, referenced}
+use Rattle.wasm_spec_validity.specs.WasmSpecSteps.WasmSpecRules.Parts.{Parts, Expression, mode_expressions, items_expressions, table_expressions, expressions_of}
 use Rattle.wasm_spec_validity.specs.Expressions.{named}
 use Rattle.wasm_validator_references.specs.References.{optional_names, table_names, global_names, mode_names, items_names, element_names}
 use Rattle.wasm_validator_references.proofs.SectionPieces.{exchange, among-append, among-flat}

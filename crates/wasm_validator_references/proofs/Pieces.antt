@@ -6,10 +6,10 @@ use Rattle.wasm_spec.specs.BinaryModules.{export_at}
 use Rattle.wasm_spec.specs.BinarySections.{Element, ElementItems, functions, expressions, table_entry_at, global_entry_at, element_at}
 use Rattle.wasm_spec.specs.Framing.{Piece, Counted}
 use Rattle.wasm_spec.specs.Values.{items_at}
-use Rattle.wasm_spec_validity.specs.WasmOperatorSteps.WasmSpecRules.Attempts.{among}
-use Rattle.wasm_spec_validity.specs.WasmOperatorSteps.WasmSpecRules.LinkRules.{exported_functions}
-use Rattle.wasm_spec_validity.specs.WasmOperatorSteps.WasmSpecRules.Parts.{Expression, index}
-use Rattle.wasm_readers.specs.Written.{written}
+use Rattle.wasm_spec_validity.specs.WasmSpecSteps.WasmSpecRules.Attempts.{among}
+use Rattle.wasm_spec_validity.specs.WasmSpecSteps.WasmSpecRules.LinkRules.{exported_functions}
+use Rattle.wasm_spec_validity.specs.WasmSpecSteps.WasmSpecRules.Parts.{Expression, index}
+use Rattle.wasm_readers.specs.WrittenIndices.{written}
 use Rattle.wasm_spec_validity.specs.Expressions.{expression_at}
 use Rattle.wasm_validator_references.specs.References.{table_names, global_names, mode_names, items_names, element_names, names_or_none, names_of_tables, names_of_globals, names_of_exports, names_of_elements, section_names, piece_names}
 use Rattle.wasm_validator_references.proofs.EntryPieces.{map_table_entry, map_global_entry, map_items, map_element, tables, globals, elements, items}

@@ -4,8 +4,8 @@ use Rattle.std.specs.List.{flat_map}
 use Rattle.std.specs.Option.{option_and_then}
 use Rattle.std.proofs.lemmas.List.Concat.{flat_map-append}
 use Rattle.wasm_spec.specs.Framing.{Piece}
-use Rattle.wasm_spec_validity.specs.WasmOperatorSteps.WasmSpecRules.Attempts.{among}
-use Rattle.wasm_spec_validity.specs.WasmOperatorSteps.WasmSpecRules.Parts.{items_of, all_items}
+use Rattle.wasm_spec_validity.specs.WasmSpecSteps.WasmSpecRules.Attempts.{among}
+use Rattle.wasm_spec_validity.specs.WasmSpecSteps.WasmSpecRules.Parts.{items_of, all_items}
 use Rattle.wasm_validator_references.specs.References.{names_or_none}
 
 none : {P X : Type 0} (x : X) → None ≡ Some x → P

@@ -2,4 +2,4 @@ pub use Rattle.wasm_spec_validity.specs as WasmSpecValidity
 pub mod Notes
 pub mod References
 pub mod Marks
-pub mod Naming
+pub mod NamedFunctions

@@ -6,9 +6,9 @@ use Rattle.wasm_spec.specs.BinaryModules.{export_at}
 use Rattle.wasm_spec.specs.BinarySections.{TableEntry, GlobalEntry, Element, ElementItems, functions, expressions, SegmentMode, passive, active, declarative, table_entry_at, global_entry_at, element_at}
 use Rattle.wasm_spec.specs.Framing.{Piece, Version, Custom, Counted, Start, DataCount, CodeStart, CodeEntry, Unknown, End}
 use Rattle.wasm_spec.specs.Values.{items_at}
-use Rattle.wasm_spec_validity.specs.WasmOperatorSteps.WasmSpecRules.LinkRules.{exported_functions}
-use Rattle.wasm_spec_validity.specs.WasmOperatorSteps.WasmSpecRules.Parts.{Expression}
-use Rattle.wasm_readers.specs.Written.{written}
+use Rattle.wasm_spec_validity.specs.WasmSpecSteps.WasmSpecRules.LinkRules.{exported_functions}
+use Rattle.wasm_spec_validity.specs.WasmSpecSteps.WasmSpecRules.Parts.{Expression}
+use Rattle.wasm_readers.specs.WrittenIndices.{written}
 use Rattle.wasm_spec_validity.specs.Expressions.{expression_at, named}
 use Rattle.wasm_validator_references.specs.Notes.{noting}
 

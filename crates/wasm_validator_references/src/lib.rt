@@ -3,7 +3,7 @@
 //! where they are read and checked; laws join what is noted so to the set of a whole module.
 #![tactic(auto)]
 
-ghost use Rattle.wasm_validator_references.specs.Naming.{NumbersNameNoFunctions, PiecesNameWhatIsReferenced};
+ghost use Rattle.wasm_validator_references.specs.NamedFunctions.{NumbersNameNoFunctions, PiecesNameWhatIsReferenced};
 
 mod flags;
 mod laws;

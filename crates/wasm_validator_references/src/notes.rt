@@ -54,7 +54,7 @@ impl NotesFunctions for NoNotes {
         Ok(())
     }
 
-    #[tactic(auto, using(crate::proofs::Noting::nothing_noted))]
+    #[tactic(auto, using(crate::proofs::FunctionNotes::nothing_noted))]
     fn note_bytes(&mut self, _function_indices: &[u8]) -> Result<(), AllocError> {
         Ok(())
     }

@@ -10,7 +10,7 @@ use Rattle.wasm_readers_errors.specs.WasmSpec.ValueTypes.{implies, allows_val, a
 use Rattle.wasm_readers_errors.specs.WasmSpec.GroupRules.{field_storage}
 use Rattle.wasm_readers_errors.specs.declared.error.Refusal.{Refusal}
 use Rattle.wasm_readers_errors.specs.WasmReadersFeatures.declared.features.WasmFeatures.{WasmFeatures}
-use Rattle.wasm_validator_resources.specs.Allowed.{proposals_allow}
+use Rattle.wasm_validator_resources.specs.AllowedComposites.{proposals_allow}
 use Rattle.wasm_validator_resources.specs.Refusals.{IsOff, IsMissing, IsOffOrLimited, IsMissingOrLimited}
 
 -- the needs of the form that a type has, among those of the forms that it doesn't have

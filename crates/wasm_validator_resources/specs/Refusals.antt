@@ -1,6 +1,6 @@
 -- Refusals for want of a proposal, and by the limits of `CRATE_LIMITS`.
 use Rattle.std.specs.Prelude.{ℕ, ◌≡◌, true, false, Option, Some, None}
-use Rattle.wasm_readers_errors.specs.WasmReadersFeatures.On.{has_flag, crate_limits_on}
+use Rattle.wasm_readers_errors.specs.WasmReadersFeatures.ProposalFlags.{has_flag, crate_limits_on}
 use Rattle.wasm_readers_errors.specs.declared.error.Refusal.{Refusal}
 use Rattle.wasm_readers_errors.specs.WasmReadersFeatures.declared.features.WasmFeatures.{WasmFeatures}
 

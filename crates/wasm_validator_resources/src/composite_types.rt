@@ -8,10 +8,10 @@ ghost use Rattle.wasm_readers_errors.specs.WasmSpec.CrateLimits.{is_within, is_l
 ghost use Rattle.wasm_spec_rules.specs.FeatureFlags.{features_of};
 ghost use Rattle.wasm_readers_types.specs.WasmReadersValues.SeenValues.{field_of, storage_of, val_of};
 ghost use Rattle.wasm_readers_types.specs.SeenTypes.{array_of, comp_of, cont_of, func_of, struct_of};
-ghost use Rattle.wasm_validator_resources.specs.Allowed.{allows_comp, proposals_allow};
+ghost use Rattle.wasm_validator_resources.specs.AllowedComposites.{allows_comp, proposals_allow};
 ghost use Rattle.wasm_readers_errors.specs.Refusals.{refused};
 ghost use Rattle.wasm_validator_resources.specs.Refusals.{IsMissing, IsMissingOrLimited};
-ghost use Rattle.wasm_validator_resources.specs.Told.{first_told, told_of_val, told_of_storage, told_of_field, told_of_form, told_of_count, told_of_limits, told_of_comp};
+ghost use Rattle.wasm_validator_resources.specs.ProposalRefusals.{first_told, told_of_val, told_of_storage, told_of_field, told_of_form, told_of_count, told_of_limits, told_of_comp};
 
 use crate::value_types::check_value_type;
 use std::alloc::Allocator;

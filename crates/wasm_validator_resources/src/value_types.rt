@@ -8,7 +8,7 @@ ghost use Rattle.wasm_readers_types.specs.WasmReadersValues.SeenValues.{abstract
 ghost use Rattle.wasm_readers_types.specs.WasmReadersValues.declared.indices.UnpackedIndex.{UnpackedIndex};
 ghost use Rattle.wasm_readers_errors.specs.Refusals.{refused};
 ghost use Rattle.wasm_validator_resources.specs.Refusals.{IsMissing};
-ghost use Rattle.wasm_validator_resources.specs.Told.{told_of_abstract, told_of_heap, told_of_ref, told_of_val};
+ghost use Rattle.wasm_validator_resources.specs.ProposalRefusals.{told_of_abstract, told_of_heap, told_of_ref, told_of_val};
 
 use bitflags::Flags;
 use wasm_readers_errors::{Fault, Refusal, Rule, ValueTypeRule, WasmFeatures, require, require_if};

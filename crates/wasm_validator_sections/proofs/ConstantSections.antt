@@ -9,19 +9,19 @@ use Rattle.wasm_spec.specs.TypeLaws.{HasNoRepetition}
 use Rattle.wasm_readers_types.specs.WasmReadersValues.declared.indices.UnpackedIndex.{UnpackedIndex}
 use Rattle.wasm_readers_types.specs.declared.types.SubType.{SubType}
 use Rattle.wasm_validator_type_list.specs.DefTypes.{def_types}
-use Rattle.wasm_validator_type_list.specs.Listable.{AreListable}
+use Rattle.wasm_validator_type_list.specs.GroupOrder.{AreListable}
 use Rattle.wasm_validator_types.specs.Spaces.{Spaces}
-use Rattle.wasm_validator_items.specs.Adding.{steps_of, naming_step}
+use Rattle.wasm_validator_items.specs.ItemSteps.{steps_of, naming_step}
 use Rattle.wasm_validator_items.specs.WasmValidatorCore.Answers.{Adds, AddsWhere}
 use Rattle.wasm_validator_items.specs.WasmValidatorCore.declared.error.Error.{Error}
 use Rattle.wasm_validator_items.specs.WasmValidatorCoreResources.IndexContexts.{id_of}
 use Rattle.wasm_validator_items.specs.WasmValidatorCoreResources.ListContexts.{list_declares}
 use Rattle.wasm_validator_items.specs.WasmValidatorReferences.References.{marked, names_at, names_in}
-use Rattle.wasm_validator_items.proofs.Adding.{adds_items, adds_and_notes}
+use Rattle.wasm_validator_items.proofs.SectionLoop.{adds_items, adds_and_notes}
 use Rattle.wasm_laws_modules.specs.WasmLawsContexts.ListedTypes.{types_declare}
 use Rattle.wasm_laws_modules.proofs.WasmLawsContexts.ListedTypes.{lists_declare_their_types}
 use Rattle.wasm_validator_sections.specs.Sections.{read_one, read_section}
-use Rattle.wasm_validator_sections.specs.Noted.{Noted, naming}
+use Rattle.wasm_validator_sections.specs.ModuleNotes.{Noted, naming}
 
 -- items that are read and typed in one pass, over what the ids of a list declare
 module _ {A V : Type 0} (c : Bool) (gs : List (List (SubType A))) (listable : AreListable gs) (apart : HasNoRepetition (def_types c gs)) (reads : List ℕ → Option (V × List ℕ)) (adds : List (UnpackedIndex × Sub UnpackedIndex) → Spaces → V → Option Spaces)

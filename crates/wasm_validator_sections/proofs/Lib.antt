@@ -9,8 +9,8 @@ pub mod Singles
 pub mod ItemSteps
 pub mod ConstantSections
 pub mod PlainSections
-pub mod Exporting
+pub mod ExportAnswers
 pub mod Forms
-pub mod Reading
+pub mod ItemReads
 pub mod SectionEntries
-pub mod GroupsGrow
+pub mod GroupGrowth

@@ -7,15 +7,15 @@ use Rattle.std.proofs.lemmas.List.{length-drop}
 use Rattle.wasm_readers_bytes.specs.Reader.{input, original, position_in, rest}
 use Rattle.wasm_readers_bytes.specs.declared.binary_reader.BinaryReader.{BinaryReader}
 use Rattle.wasm_readers_errors.specs.declared.error.Refusal.{Refusal}
-use Rattle.wasm_validator_items.specs.Adding.{steps_of, tells_read}
+use Rattle.wasm_validator_items.specs.ItemSteps.{steps_of, tells_read}
 use Rattle.wasm_validator_items.specs.WasmValidatorCore.Answers.{Adds, AddsWhere, IsNowhere}
 use Rattle.wasm_validator_items.specs.WasmValidatorCore.Errors.{IsAt}
-use Rattle.wasm_validator_items.specs.WasmValidatorCore.Told.{Tells}
+use Rattle.wasm_validator_items.specs.WasmValidatorCore.AddedItemRefusals.{Tells}
 use Rattle.wasm_validator_items.specs.WasmValidatorCore.declared.error.Error.{Error}
 use Rattle.wasm_validator_items.specs.WasmValidatorCore.declared.error.Error.TheVariants.{Refused, DuplicateExport, InFunction, OutOfMemory}
-use Rattle.wasm_validator_items.proofs.Adding.{adds_items, steps_are_items, adds_where, added_told, told_at}
+use Rattle.wasm_validator_items.proofs.SectionLoop.{adds_items, steps_are_items, adds_where, added_told, told_at}
 use Rattle.wasm_validator_sections.specs.Sections.{read_one, read_section}
-use Rattle.wasm_validator_sections.specs.SectionsTold.{IsNone, OfContent, TellsAt}
+use Rattle.wasm_validator_sections.specs.SectionFaults.{IsNone, OfContent, TellsAt}
 
 module _ {A T S V : Type 0} (reads : List ℕ → Option (V × List ℕ)) (adds : S → V → Option S) (there most count : ℕ) (bytes : List ℕ) (r : Result T (Error A)) (s t : S) where
   -- where only some of what they lead to is accepted

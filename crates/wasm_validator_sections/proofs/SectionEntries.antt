@@ -4,7 +4,7 @@ use Rattle.std.specs.Option.{option_map, option_and_then}
 use Rattle.wasm_spec.specs.Values.{items_at}
 use Rattle.wasm_spec_rules.specs.Sections.{each}
 use Rattle.wasm_validator_sections.specs.Sections.{read_section}
-use Rattle.wasm_validator_sections.proofs.Reading.{read_then_added, items_renamed, as_many_as_counted}
+use Rattle.wasm_validator_sections.proofs.ItemReads.{read_then_added, items_renamed, as_many_as_counted}
 
 -- items behind so many, renamed and added, where all keep to the limit
 abbrev pub limited : {S V W : Type 0} → (S → W → Option S) → (V → W) → ℕ → ℕ → S → List V → Option S

@@ -10,6 +10,6 @@ pub use Rattle.wasm_validator_items.specs.Sections
 pub mod Bodies
 pub mod Singles
 pub mod Machine
-pub mod SectionsTold
-pub mod Noted
-pub mod Started
+pub mod SectionFaults
+pub mod ModuleNotes
+pub mod CodeProgress

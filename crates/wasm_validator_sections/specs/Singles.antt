@@ -4,7 +4,7 @@
 use Rattle.std.specs.Prelude.{ℕ, List, length, Option}
 use Rattle.wasm_spec.specs.BinarySections.{table_entry_at, global_entry_at, element_at, data_at}
 use Rattle.wasm_spec.specs.Features.{Features}
-use Rattle.wasm_readers.specs.Written.{written}
+use Rattle.wasm_readers.specs.WrittenIndices.{written}
 use Rattle.wasm_validator_types.specs.Spaces.{Spaces}
 use Rattle.wasm_validator_items.specs.WasmValidatorCore.declared.limits.TheConstants.{MAX_ELEMENT_SEGMENTS}
 use Rattle.wasm_validator_items.specs.WasmValidatorCore.Answers.{TypesSoFar}

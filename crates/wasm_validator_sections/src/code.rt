@@ -1,11 +1,11 @@
 //! The start of the code section of a module.
 
 ghost use Rattle.std.specs.Prelude.{◌≡◌, IfOk, OnOk};
-ghost use Rattle.wasm_validator_items.specs.WasmValidatorCore.Ready.{AreHeld};
+ghost use Rattle.wasm_validator_items.specs.WasmValidatorCore.OpenLists.{AreHeld};
 ghost use Rattle.wasm_validator_items.specs.WasmValidatorCoreResources.ById.{AreFirstByIds};
 ghost use Rattle.wasm_validator_type_list.specs.DefTypes.{types_of_list};
-ghost use Rattle.wasm_validator_sections.specs.Noted.{noted_of};
-ghost use Rattle.wasm_validator_sections.specs.Started.{starting, started_of};
+ghost use Rattle.wasm_validator_sections.specs.ModuleNotes.{noted_of};
+ghost use Rattle.wasm_validator_sections.specs.CodeProgress.{starting, started_of};
 
 use crate::{CodeState, Constants, ModuleState, tells_types_apart};
 use std::alloc::{AllocError, Allocator};

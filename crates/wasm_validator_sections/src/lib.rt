@@ -12,8 +12,8 @@ mod single_items;
 pub use code::started;
 pub use code_state::{CodeState, MAX_FUNCTION_SIZE};
 pub use module_sections::{
-    add_functions, add_imports, add_memories, add_tags, add_types, check_data_segments,
-    take_elements, take_exports, take_globals, take_tables,
+    add_elements, add_exports, add_functions, add_globals, add_imports, add_memories, add_tables,
+    add_tags, add_types, check_data_segments,
 };
 pub use module_state::ModuleState;
 pub use wasm_validator_items::references::ReferencedFunctions;
@@ -48,7 +48,7 @@ pub mod operators {
     pub use wasm_validator_func::read_operator;
 }
 
-/// Passed on from `wasm_operator_validator`.
+/// Passed on from `wasm_typing_validator`.
 pub mod operator_validator {
     pub use wasm_validator_func::operator_validator::{
         Frame, FrameStack, ModuleArity, NotTaken, Operand, OperatorError, OperatorFault,

@@ -4,14 +4,14 @@ ghost use Rattle.std.specs.Prelude.{◌≡◌, OnOk, IfErr, IsTrue};
 ghost use Rattle.wasm_spec_rules.specs.FeatureFlags.{features_of};
 ghost use Rattle.wasm_readers.specs.SectionsSeen.{count_of, bytes_of, section_start, section_end};
 ghost use Rattle.wasm_validator_items.specs.WasmValidatorReferences.References.{names_of_tables, names_of_globals, names_of_exports, names_of_elements};
-ghost use Rattle.wasm_validator_sections.specs.Noted.{naming, noted_of};
+ghost use Rattle.wasm_validator_sections.specs.ModuleNotes.{naming, noted_of};
 ghost use Rattle.wasm_validator_type_list.specs.DefTypes.{types_of_list};
 ghost use Rattle.wasm_validator_items.specs.WasmValidatorCore.WasmValidatorCanonical.Groups.{AreValid};
 ghost use Rattle.wasm_validator_items.specs.WasmValidatorCore.Answers.{Adds, AddsWhere, HasValidTypes};
-ghost use Rattle.wasm_validator_items.specs.WasmValidatorCore.Ready.{IsOpenFor, AreHeld, AreIdsOf};
+ghost use Rattle.wasm_validator_items.specs.WasmValidatorCore.OpenLists.{IsOpenFor, AreHeld, AreIdsOf};
 ghost use Rattle.wasm_validator_items.specs.WasmValidatorCoreResources.ById.{AreFirstByIds};
 ghost use Rattle.wasm_validator_sections.specs.Machine.{type_items, import_items, function_items, table_items, memory_items, tag_items, global_items, export_items, element_items, data_items};
-ghost use Rattle.wasm_validator_sections.specs.SectionsTold.{OfContent, StandsBetween, TellsTypes, TellsImports, TellsFunctions, TellsTables, TellsMemories, TellsTags, TellsGlobals, TellsExports, TellsElements, TellsData};
+ghost use Rattle.wasm_validator_sections.specs.SectionFaults.{OfContent, StandsBetween, TellsTypes, TellsImports, TellsFunctions, TellsTables, TellsMemories, TellsTags, TellsGlobals, TellsExports, TellsElements, TellsData};
 
 use crate::plain_items::{
     ExportItems, FunctionItems, GroupItems, ImportItems, MemoryItems, TagItems,
@@ -175,7 +175,7 @@ pub fn check_data_segments<'a, A: Allocator + Copy>(
 }
 
 /// Adds the tables of a table section, and notes the functions that they name.
-pub fn take_tables<'a, A: Allocator + Copy>(
+pub fn add_tables<'a, A: Allocator + Copy>(
     features: WasmFeatures,
     list: &TypeList<A>,
     constants: &mut Constants<A>,
@@ -209,7 +209,7 @@ pub fn take_tables<'a, A: Allocator + Copy>(
 }
 
 /// Adds the globals of a global section, and notes the functions that they name.
-pub fn take_globals<'a, A: Allocator + Copy>(
+pub fn add_globals<'a, A: Allocator + Copy>(
     features: WasmFeatures,
     list: &TypeList<A>,
     constants: &mut Constants<A>,
@@ -243,7 +243,7 @@ pub fn take_globals<'a, A: Allocator + Copy>(
 }
 
 /// Adds the element segments of an element section, and notes the functions that they name.
-pub fn take_elements<'a, A: Allocator + Copy>(
+pub fn add_elements<'a, A: Allocator + Copy>(
     features: WasmFeatures,
     list: &TypeList<A>,
     constants: &mut Constants<A>,
@@ -277,7 +277,7 @@ pub fn take_elements<'a, A: Allocator + Copy>(
 }
 
 /// Adds the exports of an export section, and notes the functions that they name.
-pub fn take_exports<'a, A: Allocator + Copy>(
+pub fn add_exports<'a, A: Allocator + Copy>(
     features: WasmFeatures,
     alloc: A,
     list: &TypeList<A>,

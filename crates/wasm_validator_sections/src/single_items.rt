@@ -6,7 +6,7 @@ ghost use Rattle.wasm_spec_rules.specs.FeatureFlags.{features_of};
 ghost use Rattle.wasm_readers_bytes.specs.Reader.{SameInput, position_in, rest};
 ghost use Rattle.wasm_validator_type_list.specs.DefTypes.{types_of_list};
 ghost use Rattle.wasm_validator_items.specs.WasmValidatorCore.Answers.{Adds};
-ghost use Rattle.wasm_validator_items.specs.WasmValidatorCore.Ready.{AreHeld};
+ghost use Rattle.wasm_validator_items.specs.WasmValidatorCore.OpenLists.{AreHeld};
 ghost use Rattle.wasm_validator_items.specs.WasmValidatorCoreResources.ById.{AreFirstByIds};
 ghost use Rattle.wasm_validator_items.specs.WasmValidatorReferences.References.{marked, names_of_table, names_of_global, names_of_element};
 ghost use Rattle.wasm_validator_items.specs.Answers.{StandsBehind};

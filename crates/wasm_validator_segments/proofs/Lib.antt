@@ -1,11 +1,11 @@
 pub use Rattle.wasm_validator_constants.proofs.WasmValidatorReferences as WasmValidatorReferences
 pub mod Typing
-pub mod Finding
-pub mod Anywhere
-pub mod Written
+pub mod ConstantBytes
+pub mod IntegerOffsets
+pub mod WrittenTypes
 pub mod Loops
-pub mod Read
+pub mod PartReads
 pub mod PassedReferences
 pub mod NamedSegments
-pub mod Known
+pub mod FunctionBytes
 pub mod PlainSegments

@@ -10,7 +10,7 @@ use Rattle.wasm_spec.specs.BinarySections.{Element, functions, expressions, Segm
 use Rattle.wasm_spec.specs.Features.{Features}
 use Rattle.wasm_spec_rules.specs.Contexts.{Context}
 use Rattle.wasm_spec_rules.specs.Parts.{Expression}
-use Rattle.wasm_readers.specs.Written.{written}
+use Rattle.wasm_readers.specs.WrittenIndices.{written}
 use Rattle.wasm_readers_types.specs.WasmReadersValues.declared.indices.UnpackedIndex.{UnpackedIndex}
 use Rattle.wasm_readers_errors.specs.Errors.{Reads}
 use Rattle.wasm_readers_errors.specs.declared.error.Error.{Error}
@@ -18,14 +18,14 @@ use Rattle.wasm_validator_resources.specs.Answers.{val_in}
 use Rattle.wasm_validator_constants.specs.WasmValidatorReferences.WasmSpecValidity.Expressions.{expression_at, named}
 use Rattle.wasm_validator_constants.specs.WasmValidatorReferences.Notes.{noting}
 use Rattle.wasm_validator_constants.specs.WasmValidatorReferences.References.{names_if, names_of_expression, names_of_element, mode_names, element_names}
-use Rattle.wasm_validator_constants.proofs.WasmValidatorReferences.Noting.{noting_more}
-use Rattle.wasm_items.specs.Written.{written_type_at}
+use Rattle.wasm_validator_constants.proofs.WasmValidatorReferences.FunctionNotes.{noting_more}
+use Rattle.wasm_items.specs.ItemExpressions.{written_type_at}
 use Rattle.wasm_validator_segments.specs.Elements.{behind_function, reference_at, items_type_at, segment_table_at, may_go, behind_items, typed_items_at}
 use Rattle.wasm_validator_segments.specs.Expressions.{behind_expression}
 use Rattle.wasm_validator_segments.specs.Lists.{behind_list}
-use Rattle.wasm_validator_segments.specs.Named.{itself, names_of_functions, names_of_expressions, names_of_list, names_of_place, names_of_items, names_of_element_from}
+use Rattle.wasm_validator_segments.specs.NamedFunctions.{itself, names_of_functions, names_of_expressions, names_of_list, names_of_place, names_of_items, names_of_element_from}
 use Rattle.wasm_validator_segments.specs.Offsets.{behind_table_offset}
-use Rattle.wasm_validator_segments.proofs.Read.{then_gives, map_gives, function_read, expression_read, offset_read, list_read, themselves}
+use Rattle.wasm_validator_segments.proofs.PartReads.{then_gives, map_gives, function_read, expression_read, offset_read, list_read, themselves}
 
 abbrev Segment : Type 0
 Segment = Element Expression UnpackedIndex × List ℕ

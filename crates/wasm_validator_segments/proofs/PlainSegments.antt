@@ -19,8 +19,8 @@ use Rattle.wasm_validator_segments.specs.Lists.{behind_many, behind_list}
 use Rattle.wasm_validator_segments.specs.Offsets.{address_type, behind_table_offset}
 use Rattle.wasm_validator_segments.specs.Elements.{behind_function, may_go, items_type_at, segment_table_at, behind_items, typed_items_at, typed_element_from, typed_element_at}
 use Rattle.wasm_validator_constants.specs.WasmValidatorReferences.References.{names_of_expression}
-use Rattle.wasm_validator_segments.specs.Named.{names_of_functions, names_of_list, names_of_element_from}
-use Rattle.wasm_validator_segments.specs.Plain.{TakesFunctions, IsPlain}
+use Rattle.wasm_validator_segments.specs.NamedFunctions.{names_of_functions, names_of_list, names_of_element_from}
+use Rattle.wasm_validator_segments.specs.PlainElements.{TakesFunctions, IsPlain}
 use Rattle.wasm_validator_segments.proofs.NamedSegments.{are_named, behind_flag}
 
 abbrev Item : Type 0

@@ -9,18 +9,18 @@ use Rattle.wasm_readers_errors.specs.declared.error.Error.TheVariants.{Refused, 
 use Rattle.wasm_readers_errors.specs.WasmReadersFeatures.declared.features.WasmFeatures.{WasmFeatures}
 use Rattle.wasm_readers_types.specs.WasmReadersValues.declared.indices.UnpackedIndex.{UnpackedIndex}
 use Rattle.wasm_operators.specs.Control.{value_block}
-use Rattle.wasm_operator_steps.specs.Bodies.{Local}
-use Rattle.wasm_operator_steps.specs.Machine.{State}
-use Rattle.wasm_operator_steps.specs.Steps.{start}
+use Rattle.wasm_spec_steps.specs.Bodies.{Local}
+use Rattle.wasm_spec_steps.specs.Machine.{State}
+use Rattle.wasm_spec_steps.specs.Steps.{start}
 use Rattle.wasm_validator_resources.specs.Answers.{world}
-use Rattle.wasm_validator_constants.specs.WasmOperatorStacks.Seen.{surroundings}
-use Rattle.wasm_validator_constants.specs.Typed.{typed_state, BeginsConstant}
+use Rattle.wasm_validator_constants.specs.WasmTypingStacks.BodyStacks.{surroundings}
+use Rattle.wasm_validator_constants.specs.BodyTyping.{typed_state, BeginsConstant}
 use Rattle.wasm_validator_constants.specs.OperatorValidator.{OperatorValidator}
 use Rattle.wasm_validator_constants.specs.Constants.{constant_from, constant_names}
-use Rattle.wasm_validator_constants.proofs.Named.{names_of_typed}
+use Rattle.wasm_validator_constants.proofs.NamedFunctions.{names_of_typed}
 use Rattle.wasm_validator_constants.specs.WasmValidatorReferences.Notes.{noting}
 use Rattle.wasm_validator_constants.specs.WasmValidatorReferences.References.{names_of_expression}
-use Rattle.wasm_validator_constants.specs.Checked.{within, ReadsTo}
+use Rattle.wasm_validator_constants.specs.TypedInstructions.{within, ReadsTo}
 use Rattle.wasm_validator_segments.specs.Answers.{Refuses, GoesPast}
 use Rattle.wasm_validator_segments.specs.Expressions.{around_constants, behind_expression}
 

@@ -9,7 +9,7 @@ use Rattle.wasm_spec.specs.BinarySections.{ref_func}
 use Rattle.wasm_spec.specs.MatchingTests.{matches_val}
 use Rattle.wasm_spec.specs.Features.{Features}
 use Rattle.wasm_spec_rules.specs.Contexts.{Context}
-use Rattle.wasm_items.specs.Written.{written_type_at}
+use Rattle.wasm_items.specs.ItemExpressions.{written_type_at}
 use Rattle.wasm_readers_types.specs.WasmReadersValues.declared.indices.UnpackedIndex.{UnpackedIndex}
 use Rattle.wasm_spec_rules.specs.Attempts.{passes}
 use Rattle.wasm_validator_resources.specs.Answers.{world, val_in}

@@ -7,13 +7,13 @@ use Rattle.wasm_spec.specs.Features.{Features}
 use Rattle.wasm_spec_rules.specs.Contexts.{Context}
 use Rattle.wasm_readers_types.specs.WasmReadersValues.declared.indices.UnpackedIndex.{UnpackedIndex}
 use Rattle.wasm_operators.specs.Control.{value_block}
-use Rattle.wasm_operator_steps.specs.Bodies.{Surroundings}
-use Rattle.wasm_operator_steps.specs.Machine.{State}
-use Rattle.wasm_operator_steps.specs.Steps.{start}
+use Rattle.wasm_spec_steps.specs.Bodies.{Surroundings}
+use Rattle.wasm_spec_steps.specs.Machine.{State}
+use Rattle.wasm_spec_steps.specs.Steps.{start}
 use Rattle.wasm_validator_resources.specs.Answers.{world}
-use Rattle.wasm_validator_constants.specs.WasmOperatorStacks.Seen.{surroundings}
+use Rattle.wasm_validator_constants.specs.WasmTypingStacks.BodyStacks.{surroundings}
 use Rattle.wasm_validator_constants.specs.Constants.{constant_from}
-use Rattle.wasm_operator_steps.specs.ConstantRules.{IsConstantExpression}
+use Rattle.wasm_spec_steps.specs.ConstantRules.{IsConstantExpression}
 
 -- what an expression is checked in: it has no locals, and isn't shared
 abbrev pub around_constants : Context UnpackedIndex → Features → Surroundings UnpackedIndex

@@ -1,5 +1,5 @@
 pub use Rattle.wasm_validator_constants.specs.WasmValidatorReferences as WasmValidatorReferences
-pub use Rattle.wasm_validator_constants.specs.Checked
+pub use Rattle.wasm_validator_constants.specs.TypedInstructions
 pub mod Expressions
 pub mod Numbers
 pub mod Offsets
@@ -7,7 +7,7 @@ pub mod Globals
 pub mod Data
 pub mod Lists
 pub mod Elements
-pub mod Named
-pub mod Known
-pub mod Plain
+pub mod NamedFunctions
+pub mod FunctionIndices
+pub mod PlainElements
 pub mod Answers

@@ -5,12 +5,12 @@ ghost use Rattle.wasm_spec_rules.specs.FeatureFlags.{features_of};
 ghost use Rattle.wasm_readers.specs.WasmReadersBytes.Reader.{SameInput, position_in, rest, RefusedFrom};
 ghost use Rattle.wasm_readers_errors.specs.Errors.{Reads};
 ghost use Rattle.wasm_readers_types.specs.WasmReadersValues.SeenValues.{val_of};
-ghost use Rattle.wasm_validator_constants.specs.Checked.{IsRefusedAt, StandsIn};
+ghost use Rattle.wasm_validator_constants.specs.TypedInstructions.{IsRefusedAt, StandsIn};
 ghost use Rattle.wasm_validator_constants.specs.WasmValidatorReferences.Notes.{noting};
 ghost use Rattle.wasm_validator_constants.specs.WasmValidatorReferences.References.{names_of_element};
 ghost use Rattle.wasm_validator_segments.specs.Answers.{GoesPast};
 ghost use Rattle.wasm_validator_segments.specs.Elements.{index_if, may_go, reference_at, items_type_at, segment_table_at, behind_items, typed_items_at, typed_element_from, typed_element_at};
-ghost use Rattle.wasm_validator_segments.specs.Named.{names_of_place, names_of_items, names_of_element_from};
+ghost use Rattle.wasm_validator_segments.specs.NamedFunctions.{names_of_place, names_of_items, names_of_element_from};
 
 use crate::data::{no_bulk_memory, unknown_flag};
 use crate::globals::refused_at;

@@ -4,7 +4,7 @@ ghost use Rattle.std.specs.Prelude.{◌≡◌, ◌≤◌, IfErr, OnOk};
 ghost use Rattle.wasm_spec_rules.specs.FeatureFlags.{features_of};
 ghost use Rattle.wasm_readers.specs.WasmReadersBytes.Reader.{SameInput, position_in, rest};
 ghost use Rattle.wasm_readers_types.specs.WasmReadersValues.SeenValues.{val_of};
-ghost use Rattle.wasm_validator_constants.specs.Checked.{StandsIn};
+ghost use Rattle.wasm_validator_constants.specs.TypedInstructions.{StandsIn};
 ghost use Rattle.wasm_validator_constants.specs.WasmValidatorReferences.Notes.{noting};
 ghost use Rattle.wasm_validator_constants.specs.WasmValidatorReferences.References.{names_of_expression};
 ghost use Rattle.wasm_validator_segments.specs.Answers.{GoesPast};

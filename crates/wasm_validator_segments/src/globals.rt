@@ -5,7 +5,7 @@ ghost use Rattle.wasm_spec_rules.specs.FeatureFlags.{features_of};
 ghost use Rattle.wasm_readers.specs.WasmReadersBytes.Reader.{SameInput, position_in, rest};
 ghost use Rattle.wasm_readers_errors.specs.Errors.{Reads};
 ghost use Rattle.wasm_readers_types.specs.SeenExterns.{global_of};
-ghost use Rattle.wasm_validator_constants.specs.Checked.{IsRefusedAt, StandsIn};
+ghost use Rattle.wasm_validator_constants.specs.TypedInstructions.{IsRefusedAt, StandsIn};
 ghost use Rattle.wasm_validator_constants.specs.WasmValidatorReferences.Notes.{noting};
 ghost use Rattle.wasm_validator_constants.specs.WasmValidatorReferences.References.{names_of_global};
 ghost use Rattle.wasm_validator_segments.specs.Globals.{global_type_at, typed_global_at};

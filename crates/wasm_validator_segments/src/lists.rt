@@ -4,7 +4,7 @@ ghost use Rattle.std.specs.Prelude.{◌≡◌, ◌≤◌, ◌<◌, true, false, 
 ghost use Rattle.wasm_spec_rules.specs.FeatureFlags.{features_of};
 ghost use Rattle.wasm_readers.specs.WasmReadersBytes.Reader.{SameInput, position_in, rest};
 ghost use Rattle.wasm_readers_types.specs.WasmReadersValues.SeenValues.{val_of};
-ghost use Rattle.wasm_validator_constants.specs.Checked.{IsRefusedAt, StandsIn};
+ghost use Rattle.wasm_validator_constants.specs.TypedInstructions.{IsRefusedAt, StandsIn};
 ghost use Rattle.wasm_spec.specs.Values.{u32_at};
 ghost use Rattle.wasm_validator_constants.specs.WasmValidatorReferences.Notes.{noting};
 ghost use Rattle.wasm_validator_constants.specs.WasmValidatorReferences.References.{names_at};
@@ -12,8 +12,8 @@ ghost use Rattle.wasm_validator_segments.specs.Answers.{GoesPast, Refuses};
 ghost use Rattle.wasm_validator_segments.specs.Elements.{behind_function};
 ghost use Rattle.wasm_validator_segments.specs.Expressions.{behind_expression};
 ghost use Rattle.wasm_validator_segments.specs.Lists.{behind_many, behind_list};
-ghost use Rattle.wasm_validator_segments.specs.Known.{AreAtMost, AreFunctions, NameThemselves};
-ghost use Rattle.wasm_validator_segments.specs.Named.{itself, names_of_functions, names_of_expressions, names_of_list};
+ghost use Rattle.wasm_validator_segments.specs.FunctionIndices.{AreAtMost, AreFunctions, NameThemselves};
+ghost use Rattle.wasm_validator_segments.specs.NamedFunctions.{itself, names_of_functions, names_of_expressions, names_of_list};
 
 use crate::expressions::check_expression_of_type;
 use crate::memory::ExpressionMemory;

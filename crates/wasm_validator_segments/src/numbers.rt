@@ -14,7 +14,7 @@ use wasm_validator_constants::next_end;
 /// Goes past a constant expression of one integer of 32 bits, if it is next. Else the reader may
 /// stand further on.
 #[inline(always)]
-#[tactic(auto, using(crate::proofs::Anywhere::anywhere))]
+#[tactic(auto, using(crate::proofs::IntegerOffsets::anywhere))]
 fn next_i32(reader: &mut BinaryReader<'_>) -> Option<()>
     ensures same { SameInput reader.old reader.new }
     ensures onward { OnSome result (position_in reader.old ≤ position_in reader.new) }
@@ -31,7 +31,7 @@ fn next_i32(reader: &mut BinaryReader<'_>) -> Option<()>
 /// Goes past a constant expression of one integer of 64 bits, if it is next. Else the reader may
 /// stand further on.
 #[inline(always)]
-#[tactic(auto, using(crate::proofs::Anywhere::anywhere))]
+#[tactic(auto, using(crate::proofs::IntegerOffsets::anywhere))]
 fn next_i64(reader: &mut BinaryReader<'_>) -> Option<()>
     ensures same { SameInput reader.old reader.new }
     ensures onward { OnSome result (position_in reader.old ≤ position_in reader.new) }

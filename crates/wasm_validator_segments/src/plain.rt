@@ -3,7 +3,7 @@
 
 ghost use Rattle.std.specs.Prelude.{◌≡◌, ◌≤◌, true, OnSome, IfSome};
 ghost use Rattle.wasm_readers.specs.WasmReadersBytes.Reader.{SameInput, position_in, rest};
-ghost use Rattle.wasm_validator_segments.specs.Plain.{TakesFunctions, IsPlain};
+ghost use Rattle.wasm_validator_segments.specs.PlainElements.{TakesFunctions, IsPlain};
 
 use crate::lists::MAX_ITEMS;
 use crate::numbers::next_number;

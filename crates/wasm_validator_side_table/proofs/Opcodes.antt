@@ -12,7 +12,7 @@ use Rattle.wasm_operators.specs.WasmOperatorsPlain.Numeric.{numeric_from}
 use Rattle.wasm_operators.specs.WasmOperatorsPlain.declared.memories.MemoryOperator.{MemoryOperator}
 use Rattle.wasm_spec_side_tables.specs.SideTables.{Branch, branches, Nesting, stays, nesting}
 use Rattle.wasm_spec_side_tables.proofs.Lists.{the_same}
-use Rattle.wasm_validator_side_table.specs.Fast.{IsQuiet}
+use Rattle.wasm_validator_side_table.specs.OperatorNotes.{IsQuiet}
 
 pub below : (b m : ℕ) → b < m → nat_lt b m ≡ true
 below b m h = grind (arith, nat_tests)

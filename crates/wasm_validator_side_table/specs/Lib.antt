@@ -1,5 +1,5 @@
-pub mod Shown
+pub mod TableViews
 pub mod Tables
-pub mod Fast
+pub mod OperatorNotes
 pub mod Answers
-pub mod Taken
+pub mod ResumeOperands

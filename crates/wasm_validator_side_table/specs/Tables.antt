@@ -8,22 +8,22 @@ use Rattle.wasm_spec_rules.specs.Attempts.{◌>>=◌}
 use Rattle.wasm_readers_types.specs.WasmReadersValues.declared.indices.UnpackedIndex.{UnpackedIndex}
 use Rattle.wasm_operators.specs.Control.{func_block}
 use Rattle.wasm_operators.specs.Instructions.{instruction_at}
-use Rattle.wasm_operator_steps.specs.Bodies.{Surroundings}
-use Rattle.wasm_operator_steps.specs.Machine.{State}
-use Rattle.wasm_operator_steps.specs.Steps.{start, step_in}
+use Rattle.wasm_spec_steps.specs.Bodies.{Surroundings}
+use Rattle.wasm_spec_steps.specs.Machine.{State}
+use Rattle.wasm_spec_steps.specs.Steps.{start, step_in}
 use Rattle.wasm_validator_resources.specs.Answers.{world, sub_in}
-use Rattle.wasm_operator_validator.specs.WasmOperatorControl.Blocks.{function_in}
+use Rattle.wasm_typing_validator.specs.WasmTypingControl.Blocks.{function_in}
 use Rattle.wasm_readers.specs.WasmReadersBytes.Reader.{place_of_next, rest}
 use Rattle.wasm_readers.specs.WasmReadersBytes.declared.binary_reader.BinaryReader.{BinaryReader}
-use Rattle.wasm_operator_stacks.specs.Seen.{Kept}
-use Rattle.wasm_operator_validator.specs.Typed.{parameter, typed_state, locals_in}
-use Rattle.wasm_operator_validator.specs.Checked.{within}
-use Rattle.wasm_operator_validator.specs.declared.validator.OperatorValidator.{OperatorValidator}
+use Rattle.wasm_typing_stacks.specs.BodyStacks.{Kept}
+use Rattle.wasm_typing_validator.specs.BodyTyping.{parameter, typed_state, locals_in}
+use Rattle.wasm_typing_validator.specs.TypedInstructions.{within}
+use Rattle.wasm_typing_validator.specs.declared.validator.OperatorValidator.{OperatorValidator}
 use Rattle.wasm_validator_func.specs.Bodies.{locals_from}
-use Rattle.wasm_validator_func.specs.Validated.{listed_in, Goes}
+use Rattle.wasm_validator_func.specs.BodyValidation.{listed_in, Goes}
 use Rattle.wasm_spec_side_tables.specs.SideTables.{Placed, side_table, greatest_height}
-use Rattle.wasm_spec_side_tables.specs.Building.{Built, noted, built}
-use Rattle.wasm_validator_side_table.specs.Shown.{shown}
+use Rattle.wasm_spec_side_tables.specs.OnePassTables.{Built, noted, built}
+use Rattle.wasm_validator_side_table.specs.TableViews.{shown}
 use Rattle.wasm_validator_side_table.specs.declared.table.SideTable.{SideTable}
 
 -- the instruction at the front of bytes, the first of which has this offset

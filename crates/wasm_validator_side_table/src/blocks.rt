@@ -2,7 +2,7 @@
 
 ghost use Rattle.std.specs.Prelude.{◌≡◌, if◌then◌else◌, IfSome, OnOk, Some};
 ghost use Rattle.wasm_spec_side_tables.specs.SideTables.{opens, opens_loop, turns, closes};
-ghost use Rattle.wasm_validator_side_table.specs.Shown.{shown, place_in, nested_in};
+ghost use Rattle.wasm_validator_side_table.specs.TableViews.{shown, place_in, nested_in};
 
 use crate::table::SideTable;
 use std::alloc::{AllocError, Allocator};

@@ -3,18 +3,18 @@
 ghost use Rattle.std.specs.Prelude.{◌≡◌, ◌<◌, ◌≤◌, [], true, false, max, length, OnOk, OnErr, IfErr, Some, None};
 ghost use Rattle.wasm_spec_rules.specs.FeatureFlags.{features_of};
 ghost use Rattle.wasm_readers.specs.WasmReadersBytes.Reader.{SameInput, position_in, place_of_next, rest};
-ghost use Rattle.wasm_parser.specs.Seen.{body_of, body_reader};
+ghost use Rattle.wasm_parser.specs.PayloadViews.{body_of, body_reader};
 ghost use Rattle.wasm_validator_resources.specs.Answers.{world};
-ghost use Rattle.wasm_operator_stacks.specs.Seen.{Kept};
-ghost use Rattle.wasm_operator_validator.specs.Typed.{typed_state, locals_in};
-ghost use Rattle.wasm_operator_validator.specs.Checked.{within, IsRefusedAt, StandsIn, ReadsTo};
-ghost use Rattle.wasm_operator_validator.specs.Reads.{ReadsStep, stepped};
+ghost use Rattle.wasm_typing_stacks.specs.BodyStacks.{Kept};
+ghost use Rattle.wasm_typing_validator.specs.BodyTyping.{typed_state, locals_in};
+ghost use Rattle.wasm_typing_validator.specs.TypedInstructions.{within, IsRefusedAt, StandsIn, ReadsTo};
+ghost use Rattle.wasm_typing_validator.specs.StepsFromBytes.{ReadsStep, stepped};
 ghost use Rattle.wasm_validator_func.specs.Bodies.{instructions_from};
 ghost use Rattle.wasm_validator_func.specs.Functions.{IsFunctionBody};
-ghost use Rattle.wasm_validator_func.specs.Validated.{body_in, Validates};
-ghost use Rattle.wasm_spec_side_tables.specs.Building.{resolved_each};
+ghost use Rattle.wasm_validator_func.specs.BodyValidation.{body_in, Validates};
+ghost use Rattle.wasm_spec_side_tables.specs.OnePassTables.{resolved_each};
 ghost use Rattle.wasm_validator_side_table.specs.Answers.{Makes, StandsSo};
-ghost use Rattle.wasm_validator_side_table.specs.Shown.{shown};
+ghost use Rattle.wasm_validator_side_table.specs.TableViews.{shown};
 ghost use Rattle.wasm_validator_side_table.specs.Tables.{Advances, Reaches, HasRead, IsTableOf, IsEmptyTable};
 
 use crate::error::{SideTableError, of_validator};
@@ -38,7 +38,7 @@ fn behind_end(offset: u64) -> Error
 
 impl<A: Allocator> SideTable<A> {
     /// Puts the places into the entries, where all blocks are closed, and says whether that was done.
-    #[tactic(auto, using(crate::proofs::Resolving::resolving))]
+    #[tactic(auto, using(crate::proofs::EntryPlaces::resolving))]
     pub fn finish(&mut self) -> bool
         ensures resolved { result ≡ true → resolved_each self.old.places.items
             self.old.entries.items ≡ Some self.new.entries.items }
@@ -64,7 +64,7 @@ impl<A: Allocator> SideTable<A> {
     }
 
     /// Notes the next operator, and lets the validator take its step.
-    #[tactic(auto, using(crate::proofs::Reaching::advancing))]
+    #[tactic(auto, using(crate::proofs::NextInstructions::advancing))]
     fn read_one<'a, T: WasmModuleResources, B: Allocator>(
         &mut self,
         validator: &mut FuncValidator<T, B>,
@@ -205,7 +205,7 @@ impl<A: Allocator> SideTable<A> {
 const MOST: u64 = 4_294_967_295;
 
 /// Validates a body, and makes its table where the offset behind it is one that an entry may have.
-#[tactic(auto, using(crate::proofs::Whole::answers))]
+#[tactic(auto, using(crate::proofs::WholeTables::answers))]
 fn make<T: WasmModuleResources + Drop, A: Allocator, B: Allocator>(
     function: FuncToValidate<T>,
     body: &FunctionBody<'_>,

@@ -7,9 +7,9 @@ ghost use Rattle.wasm_operators.specs.Maps.{map_block};
 ghost use Rattle.wasm_operators.specs.SeenControl.{block_of};
 ghost use Rattle.wasm_operators.specs.SeenLists.{listed};
 ghost use Rattle.wasm_validator_resources.specs.Answers.{written_index};
-ghost use Rattle.wasm_operator_validator.specs.Typed.{typed_state};
+ghost use Rattle.wasm_typing_validator.specs.BodyTyping.{typed_state};
 ghost use Rattle.wasm_spec_side_tables.specs.SideTables.{to_label, past_then, catching_to, catch_label};
-ghost use Rattle.wasm_validator_side_table.specs.Shown.{shown, planned_one, planned_in};
+ghost use Rattle.wasm_validator_side_table.specs.TableViews.{shown, planned_one, planned_in};
 
 use crate::counts::label_counts;
 use crate::table::SideTable;
@@ -128,7 +128,7 @@ impl<A: Allocator> SideTable<A> {
     }
 
     /// Notes a branch to each of these labels.
-    #[tactic(auto, using(crate::proofs::Planning::loops))]
+    #[tactic(auto, using(crate::proofs::BranchNotes::loops))]
     fn branch_to_each<'a, T: WasmModuleResources, B: Allocator>(
         &mut self,
         validator: &FuncValidator<T, B>,
@@ -151,7 +151,7 @@ impl<A: Allocator> SideTable<A> {
     }
 
     /// Notes the branches of a `br_table`.
-    #[tactic(auto, using(crate::proofs::Planning::notes))]
+    #[tactic(auto, using(crate::proofs::BranchNotes::notes))]
     pub(crate) fn branch_by_table<'a, T: WasmModuleResources, B: Allocator>(
         &mut self,
         validator: &FuncValidator<T, B>,
@@ -195,7 +195,7 @@ impl<A: Allocator> SideTable<A> {
     }
 
     /// Notes where the clauses of a `try_table` catch to.
-    #[tactic(auto, using(crate::proofs::Planning::loops))]
+    #[tactic(auto, using(crate::proofs::BranchNotes::loops))]
     pub(crate) fn branch_by_clauses<'a, T: WasmModuleResources, B: Allocator>(
         &mut self,
         validator: &FuncValidator<T, B>,

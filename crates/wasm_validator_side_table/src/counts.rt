@@ -1,8 +1,8 @@
 //! What labels and blocks count.
 
 ghost use Rattle.std.specs.Prelude.{◌≡◌};
-ghost use Rattle.wasm_operator_validator.specs.Typed.{typed_state};
-ghost use Rattle.wasm_validator_side_table.specs.Shown.{label_in};
+ghost use Rattle.wasm_typing_validator.specs.BodyTyping.{typed_state};
+ghost use Rattle.wasm_validator_side_table.specs.TableViews.{label_in};
 
 use std::alloc::Allocator;
 use wasm_operators::FrameKind;

@@ -3,10 +3,10 @@
 
 ghost use Rattle.std.specs.Prelude.{◌≡◌, ◌<◌, false, true, Some};
 ghost use Rattle.wasm_readers.specs.WasmReadersBytes.Reader.{SameInput, position_in, rest};
-ghost use Rattle.wasm_operator_stacks.specs.Seen.{Kept};
-ghost use Rattle.wasm_operator_validator.specs.Typed.{typed_state};
-ghost use Rattle.wasm_operator_validator.specs.Reads.{stepped};
-ghost use Rattle.wasm_validator_side_table.specs.Fast.{IsQuiet, AdvancesQuietly};
+ghost use Rattle.wasm_typing_stacks.specs.BodyStacks.{Kept};
+ghost use Rattle.wasm_typing_validator.specs.BodyTyping.{typed_state};
+ghost use Rattle.wasm_typing_validator.specs.StepsFromBytes.{stepped};
+ghost use Rattle.wasm_validator_side_table.specs.OperatorNotes.{IsQuiet, AdvancesQuietly};
 
 use std::alloc::Allocator;
 use wasm_readers::BinaryReader;

@@ -3,13 +3,13 @@
 ghost use Rattle.std.specs.Prelude.{◌≡◌, ◌<◌, ◌≤◌, ◌+◌, ◌∷◌, true, false, Some, IfSome};
 ghost use Rattle.wasm_readers.specs.WasmReadersBytes.Reader.{SameInput, position_in, place_of_next, rest};
 ghost use Rattle.wasm_validator_resources.specs.Answers.{world};
-ghost use Rattle.wasm_operator_stacks.specs.Seen.{Kept};
-ghost use Rattle.wasm_operator_validator.specs.Typed.{typed_state};
-ghost use Rattle.wasm_operator_validator.specs.Checked.{within};
-ghost use Rattle.wasm_operator_validator.specs.Reads.{stepped};
-ghost use Rattle.wasm_validator_side_table.specs.Shown.{shown, nested_in};
+ghost use Rattle.wasm_typing_stacks.specs.BodyStacks.{Kept};
+ghost use Rattle.wasm_typing_validator.specs.BodyTyping.{typed_state};
+ghost use Rattle.wasm_typing_validator.specs.TypedInstructions.{within};
+ghost use Rattle.wasm_typing_validator.specs.StepsFromBytes.{stepped};
+ghost use Rattle.wasm_validator_side_table.specs.TableViews.{shown, nested_in};
 ghost use Rattle.wasm_validator_side_table.specs.Tables.{Advances};
-ghost use Rattle.wasm_validator_side_table.specs.Fast.{Foresees, with_noted, nesting_of};
+ghost use Rattle.wasm_validator_side_table.specs.OperatorNotes.{Foresees, with_noted, nesting_of};
 
 use crate::table::SideTable;
 use std::alloc::Allocator;
@@ -41,7 +41,7 @@ pub(crate) enum Noted {
 
 impl<A: Allocator> SideTable<A> {
     /// What is to be noted of a branch, whose label is next.
-    #[tactic(auto, using(crate::proofs::Foreseeing::foresees))]
+    #[tactic(auto, using(crate::proofs::FirstBytes::foresees))]
     fn foresee_branch<'a, T: WasmModuleResources, B: Allocator>(
         &self,
         validator: &FuncValidator<T, B>,
@@ -62,7 +62,7 @@ impl<A: Allocator> SideTable<A> {
     }
 
     /// What is to be noted of an `if` without parameters, whose block type is next.
-    #[tactic(auto, using(crate::proofs::Foreseeing::foresees))]
+    #[tactic(auto, using(crate::proofs::FirstBytes::foresees))]
     fn foresee_then<'a, T: WasmModuleResources, B: Allocator>(
         &self,
         validator: &FuncValidator<T, B>,
@@ -88,7 +88,7 @@ impl<A: Allocator> SideTable<A> {
     }
 
     /// What is to be noted of the next operator, if it is a frequent one.
-    #[tactic(auto, using(crate::proofs::Foreseeing::foresees))]
+    #[tactic(auto, using(crate::proofs::FirstBytes::foresees))]
     fn foresee<'a, T: WasmModuleResources, B: Allocator>(
         &self,
         validator: &FuncValidator<T, B>,

@@ -4,10 +4,10 @@ ghost use Rattle.std.specs.Prelude.{◌≡◌, ℕ, [], ◌∷◌, OnOk, Some, I
 ghost use Rattle.wasm_operators.specs.Continuations.{handle_at};
 ghost use Rattle.wasm_operators.specs.SeenContinuations.{continuation_of, handles_of};
 ghost use Rattle.wasm_operators.specs.SeenLists.{listed};
-ghost use Rattle.wasm_operator_steps.specs.Actions.{OperandTypes};
+ghost use Rattle.wasm_spec_steps.specs.Actions.{OperandTypes};
 ghost use Rattle.wasm_spec_side_tables.specs.SideTables.{handling_to, continuation_branches, handle_branches};
-ghost use Rattle.wasm_validator_side_table.specs.Shown.{shown, planned_one, planned_in};
-ghost use Rattle.wasm_validator_side_table.specs.Taken.{AreSoMany, AreTaken};
+ghost use Rattle.wasm_validator_side_table.specs.TableViews.{shown, planned_one, planned_in};
+ghost use Rattle.wasm_validator_side_table.specs.ResumeOperands.{AreSoMany, AreTaken};
 
 use crate::branches::count_operands;
 use crate::counts::label_counts;
@@ -43,7 +43,7 @@ impl<A: Allocator> SideTable<A> {
     }
 
     /// Notes where a handler branches to, once so many operands were taken.
-    #[tactic(auto, using(crate::proofs::Handling::handlers))]
+    #[tactic(auto, using(crate::proofs::HandlerNotes::handlers))]
     fn branch_by_handler<T: WasmModuleResources, B: Allocator>(
         &mut self,
         validator: &FuncValidator<T, B>,
@@ -69,7 +69,7 @@ impl<A: Allocator> SideTable<A> {
     }
 
     /// Notes where handlers branch to, once so many operands were taken.
-    #[tactic(auto, using(crate::proofs::Handling::loops))]
+    #[tactic(auto, using(crate::proofs::HandlerNotes::loops))]
     fn branch_by_handlers<'a, T: WasmModuleResources, B: Allocator>(
         &mut self,
         validator: &FuncValidator<T, B>,
@@ -117,7 +117,7 @@ impl<A: Allocator> SideTable<A> {
     }
 
     /// Notes the branches of an operator on continuations.
-    #[tactic(auto, using(crate::proofs::Resuming::resuming))]
+    #[tactic(auto, using(crate::proofs::ResumeArities::resuming))]
     pub(crate) fn plan_continuation<'a, T: WasmModuleResources, B: Allocator>(
         &mut self,
         validator: &FuncValidator<T, B>,

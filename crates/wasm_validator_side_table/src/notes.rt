@@ -7,14 +7,14 @@ ghost use Rattle.wasm_operators.specs.SeenLegacy.{legacy_of};
 ghost use Rattle.wasm_operators.specs.SeenReferences.{reference_of, cast_of};
 ghost use Rattle.wasm_operators.specs.SeenOperators.{operator_of};
 ghost use Rattle.wasm_validator_resources.specs.Answers.{written_index};
-ghost use Rattle.wasm_operator_stacks.specs.Seen.{Kept};
-ghost use Rattle.wasm_operator_validator.specs.Stepped.{IsWrittenInstruction};
-ghost use Rattle.wasm_operator_validator.specs.Typed.{typed_state};
-ghost use Rattle.wasm_operator_validator.specs.Checked.{TookAt};
-ghost use Rattle.wasm_operator_validator.specs.Ended.{failure_at};
+ghost use Rattle.wasm_typing_stacks.specs.BodyStacks.{Kept};
+ghost use Rattle.wasm_typing_validator.specs.StackSteps.{IsWrittenInstruction};
+ghost use Rattle.wasm_typing_validator.specs.BodyTyping.{typed_state};
+ghost use Rattle.wasm_typing_validator.specs.TypedInstructions.{TookAt};
+ghost use Rattle.wasm_typing_validator.specs.ValidatorFailures.{failure_at};
 ghost use Rattle.wasm_spec_side_tables.specs.SideTables.{branches, control_branches, legacy_branches, reference_branches, cast_branches};
 ghost use Rattle.wasm_spec_side_tables.specs.SideTables.{nesting, control_nesting, legacy_nesting};
-ghost use Rattle.wasm_validator_side_table.specs.Shown.{shown, instruction_of, placed, nested_in, planned_in, noted_in, steps_to};
+ghost use Rattle.wasm_validator_side_table.specs.TableViews.{shown, instruction_of, placed, nested_in, planned_in, noted_in, steps_to};
 
 use crate::branches::count_operands;
 use crate::table::SideTable;
@@ -193,7 +193,7 @@ impl<A: Allocator> SideTable<A> {
     }
 
     /// Notes an operator, before the validator takes its step.
-    #[tactic(auto, using(crate::proofs::Planning::notes))]
+    #[tactic(auto, using(crate::proofs::BranchNotes::notes))]
     fn note<'a, T: WasmModuleResources, B: Allocator>(
         &mut self,
         validator: &FuncValidator<T, B>,
@@ -242,7 +242,7 @@ impl<A: Allocator> SideTable<A> {
     ///
     /// Refuses as [`FuncValidator::op`]; answers want of memory, also where there are as many
     /// operands as 32 bits don't count. The table is then of no use, until it begins again.
-    #[tactic(auto, using(crate::proofs::Reaching::stepping))]
+    #[tactic(auto, using(crate::proofs::NextInstructions::stepping))]
     pub fn op<'a, T: WasmModuleResources, B: Allocator>(
         &mut self,
         validator: &mut FuncValidator<T, B>,

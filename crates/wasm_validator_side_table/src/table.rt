@@ -1,14 +1,14 @@
 //! Tables, while they are made and once they are.
 
 ghost use Rattle.std.specs.Prelude.{◌≡◌, ◌++◌, ◌∷◌, [], OnOk, IfErr};
-ghost use Rattle.wasm_validator_side_table.specs.Shown.{shown};
+ghost use Rattle.wasm_validator_side_table.specs.TableViews.{shown};
 ghost use Rattle.wasm_validator_side_table.specs.Tables.{IsEmptyTable};
-ghost use Rattle.wasm_spec_side_tables.specs.Building.{begun};
+ghost use Rattle.wasm_spec_side_tables.specs.OnePassTables.{begun};
 
 use std::alloc::{AllocError, Allocator, Global};
-use wasm_operator_stacks::Stack;
 use wasm_readers_errors::Error;
 use wasm_spec_side_tables::{Entry, OpenBlock, Place};
+use wasm_typing_stacks::Stack;
 
 /// A side table, and the memory in which the next one is made.
 pub struct SideTable<A: Allocator = Global> {

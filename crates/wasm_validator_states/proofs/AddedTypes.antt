@@ -10,7 +10,7 @@ use Rattle.wasm_spec.specs.Trees.{DefType}
 use Rattle.wasm_spec_rules.specs.FeatureFlags.{features_of}
 use Rattle.wasm_spec_rules.specs.Sections.{each}
 use Rattle.wasm_spec_rules.proofs.Tests.{guarded, map_some, then_some}
-use Rattle.wasm_readers.specs.Written.{written}
+use Rattle.wasm_readers.specs.WrittenIndices.{written}
 use Rattle.wasm_readers_errors.specs.WasmReadersFeatures.declared.features.WasmFeatures.{WasmFeatures}
 use Rattle.wasm_validator_canonical.specs.Groups.{AreValid, with_written}
 use Rattle.wasm_validator_canonical.specs.Sections.{with_all_written, StandsFor, HoldsSection}

@@ -2,7 +2,7 @@
 use Rattle.std.proofs.Common.{◌≡◌, refl, sym, subst, ◌∙◌, ◌⊎◌, inl, inr, ℕ, Bool, true, false, List, [], ◌∷◌, ◌++◌}
 use Rattle.wasm_spec.specs.Framing.{Piece, Version, Custom, Counted, Start, DataCount, CodeStart, CodeEntry, Unknown, End}
 use Rattle.wasm_spec_rules.specs.Sections.{rank, ranks}
-use Rattle.wasm_spec_rules.proofs.Ordered.{Follows, done, free, here, body, later}
+use Rattle.wasm_spec_rules.proofs.SectionRanks.{Follows, done, free, here, body, later}
 
 -- the ranks of what comes there
 abbrev pub IsLate : ℕ → Type 0

@@ -18,24 +18,24 @@ use Rattle.wasm_spec_rules.specs.Parts.{Expression, index}
 use Rattle.wasm_spec_rules.specs.Sections.{each}
 use Rattle.wasm_spec_rules.specs.SegmentRules.{items_type}
 use Rattle.wasm_spec_rules.proofs.Tests.{then_some, guarded, when}
-use Rattle.wasm_readers.specs.Written.{written}
+use Rattle.wasm_readers.specs.WrittenIndices.{written}
 use Rattle.wasm_validator_canonical.specs.Indices.{canonical_index}
 use Rattle.wasm_validator_sections.specs.WasmValidatorChecks.Items.{is_valid_defined_table, is_valid_global}
 use Rattle.wasm_validator_sections.specs.WasmValidatorChecks.Laws.{Stand}
-use Rattle.wasm_validator_sections.proofs.WasmValidatorChecks.Decided.{defined_tables_are_decided, globals_are_decided}
+use Rattle.wasm_validator_sections.proofs.WasmValidatorChecks.ItemTests.{defined_tables_are_decided, globals_are_decided}
 use Rattle.wasm_validator_types.specs.Spaces.{Spaces}
 use Rattle.wasm_validator_sections.specs.WasmValidatorCore.Answers.{TypesSoFar}
 use Rattle.wasm_validator_sections.specs.WasmValidatorCore.Items.{types_of_module, with_table, with_global}
-use Rattle.wasm_validator_sections.specs.WasmLawsCore.Shown.{listed, listed_table, listed_global, listed_element}
+use Rattle.wasm_validator_sections.specs.WasmLawsCore.ModuleParts.{listed, listed_table, listed_global, listed_element}
 use Rattle.wasm_validator_sections.proofs.WasmLawsCore.AddedItems.{each_changed}
 use Rattle.wasm_validator_sections.specs.WasmLawsContexts.ListedTypes.{types_declare}
 use Rattle.wasm_spec_validity.specs.Expressions.{expression_at}
 use Rattle.wasm_validator_sections.specs.Sections.{read_section}
 use Rattle.wasm_validator_sections.specs.Entries.{is_constant_of, is_constant_or_none, are_items, may_be_placed, may_be_stored, listed_items_type, add_table_entry, add_global_entry, add_element, add_data}
 use Rattle.wasm_validator_sections.specs.WasmLawsModules.Maps.{map_table_entry, map_global_entry, map_items, map_element}
-use Rattle.wasm_validator_sections.specs.WasmLawsModules.Reading.{EntriesAreRenamed}
-use Rattle.wasm_validator_sections.specs.Noted.{Noted, naming}
-use Rattle.wasm_validator_states.specs.Standing.{Standing}
+use Rattle.wasm_validator_sections.specs.WasmLawsModules.OnePassSections.{EntriesAreRenamed}
+use Rattle.wasm_validator_sections.specs.ModuleNotes.{Noted, naming}
+use Rattle.wasm_validator_states.specs.ValidatorStages.{Standing}
 use Rattle.wasm_validator_sections.specs.WasmValidatorReferences.References.{names_of_tables, names_of_globals, names_of_elements}
 use Rattle.wasm_validator_states.specs.States.{after_section}
 use Rattle.wasm_validator_states.specs.SectionLaws.{AddsEach, HasAddedEach, FitsTable, FitsGlobal, FitsElement, FitsData, TablesAdd, GlobalsAdd, ElementsAdd, SegmentsAdd}

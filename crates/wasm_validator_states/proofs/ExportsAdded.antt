@@ -13,8 +13,8 @@ use Rattle.wasm_validator_sections.specs.WasmLawsCore.Exports.{with_exports}
 use Rattle.wasm_validator_sections.proofs.WasmLawsCore.AddedExports.{exports_are_added_behind}
 use Rattle.wasm_validator_sections.proofs.WasmLawsCore.AddedItems.{each_changed}
 use Rattle.wasm_validator_sections.specs.Sections.{read_section}
-use Rattle.wasm_validator_sections.specs.Noted.{naming}
-use Rattle.wasm_validator_states.specs.Standing.{in_module}
+use Rattle.wasm_validator_sections.specs.ModuleNotes.{naming}
+use Rattle.wasm_validator_states.specs.ValidatorStages.{in_module}
 use Rattle.wasm_validator_sections.specs.WasmValidatorReferences.References.{names_of_exports}
 use Rattle.wasm_validator_states.specs.SectionLaws.{ExportsAdd}
 use Rattle.wasm_validator_sections.proofs.SectionEntries.{limited, section_entries, renames_nothing, same_item}

@@ -14,13 +14,13 @@ use Rattle.wasm_spec_rules.specs.Parts.{index}
 use Rattle.wasm_spec_rules.specs.Sections.{each}
 use Rattle.wasm_spec_rules.specs.Limits.{most_imports}
 use Rattle.wasm_spec_rules.proofs.Tests.{then_some, guarded}
-use Rattle.wasm_readers.specs.Written.{written}
+use Rattle.wasm_readers.specs.WrittenIndices.{written}
 use Rattle.wasm_validator_sections.specs.WasmValidatorChecks.Laws.{Stand}
 use Rattle.wasm_validator_types.specs.Spaces.{Spaces}
 use Rattle.wasm_validator_sections.specs.WasmValidatorCore.Answers.{TypesSoFar}
 use Rattle.wasm_validator_sections.specs.WasmValidatorCore.Items.{add_import}
 use Rattle.wasm_validator_sections.specs.WasmLawsCore.Imports.{KeepsLimits, FitsImport, with_entry}
-use Rattle.wasm_validator_sections.specs.WasmLawsCore.Shown.{listed_table, listed_global}
+use Rattle.wasm_validator_sections.specs.WasmLawsCore.ModuleParts.{listed_table, listed_global}
 use Rattle.wasm_validator_sections.proofs.WasmLawsCore.AddedImports.{one_import_is_added}
 use Rattle.wasm_validator_sections.proofs.WasmLawsCore.AddedItems.{each_changed}
 use Rattle.wasm_validator_sections.specs.Sections.{read_section}

@@ -6,8 +6,8 @@ use Rattle.std.specs.declared.result.Result.TheVariants as results
 use Rattle.wasm_spec.specs.TypeLaws.{HasNoRepetition}
 use Rattle.wasm_readers_errors.specs.WasmReadersFeatures.declared.features.WasmFeatures.{WasmFeatures}
 use Rattle.wasm_readers_types.specs.declared.types.SubType.{SubType}
-use Rattle.wasm_validator_type_list.specs.Listing.{Listing}
-use Rattle.wasm_validator_type_list.specs.Listable.{AreListable}
+use Rattle.wasm_validator_type_list.specs.ListViews.{Listing}
+use Rattle.wasm_validator_type_list.specs.GroupOrder.{AreListable}
 use Rattle.wasm_validator_type_list.specs.DefTypes.{def_types, types_of_list}
 use Rattle.wasm_validator_types.specs.Spaces.{Spaces}
 use Rattle.wasm_validator_sections.specs.WasmValidatorCore.Answers.{TypesSoFar, AddsWhere, HasValidTypes}
@@ -16,9 +16,9 @@ use Rattle.wasm_validator_sections.specs.WasmLawsContexts.WasmValidatorCoreResou
 use Rattle.wasm_validator_sections.proofs.WasmLawsContexts.GrownLists.{first_types_stay_first}
 use Rattle.wasm_validator_sections.specs.declared.module_state.ModuleState.{ModuleState}
 use Rattle.wasm_validator_sections.specs.Machine.{type_items}
-use Rattle.wasm_validator_states.specs.Ready.{AreFirstIn}
+use Rattle.wasm_validator_states.specs.ModuleInvariants.{AreFirstIn}
 use Rattle.wasm_validator_states.specs.Views.{state_kept}
-use Rattle.wasm_validator_states.proofs.Growing as growing
+use Rattle.wasm_validator_states.proofs.ListGrowth as growing
 
 -- a list of types that ends as this one goes on to it
 abbrev GoesOn : TypesSoFar → TypesSoFar → Type 0

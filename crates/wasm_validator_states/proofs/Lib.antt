@@ -2,7 +2,7 @@ pub use Rattle.wasm_parser.proofs as WasmParser
 pub use Rattle.wasm_validator_canonical.proofs as WasmValidatorCanonical
 pub use Rattle.wasm_validator_sections.proofs as WasmValidatorSections
 pub use Rattle.wasm_validator_sections.proofs.WasmLawsCore as WasmLawsCore
-pub mod Growing
+pub mod ListGrowth
 pub mod ValidTypes
 pub mod AddedTypes
 pub mod ModuleRun
@@ -20,18 +20,18 @@ pub mod WholeModules
 pub mod Sequences
 pub mod OwnIds
 pub mod Resets
-pub mod TableKept
+pub mod TableSteps
 pub mod SectionLaws
 pub mod EntriesAdded
 pub mod ImportsAdded
 pub mod ExportsAdded
 pub mod TypesAdded
-pub mod HeldShown
-pub mod GoingOn
+pub mod ShownTypeIds
+pub mod ParserProgress
 pub mod KeptTypes
-pub mod HeldApart
+pub mod DistinctTypes
 pub mod OpenModules
 pub mod SectionMoves
-pub mod ToldMoves
-pub mod Together
-pub mod Stays
+pub mod SectionAnswers
+pub mod ParserAndValidator
+pub mod UnmovedValidators

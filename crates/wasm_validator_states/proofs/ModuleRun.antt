@@ -12,7 +12,7 @@ use Rattle.wasm_spec_rules.specs.Parts.{items_of, all_items, starts_of, data_cou
 use Rattle.wasm_spec_rules.specs.FeatureFlags.{features_of}
 use Rattle.wasm_spec_rules.specs.Modules.{IsAllowedPiece}
 use Rattle.wasm_spec.specs.Features.{Features}
-use Rattle.wasm_spec_rules.proofs.Ordered.{Follows, AreRanks, LeavesFree, IsOne, one_at_most, by_ranks}
+use Rattle.wasm_spec_rules.proofs.SectionRanks.{Follows, AreRanks, LeavesFree, IsOne, one_at_most, by_ranks}
 use Rattle.wasm_spec_rules.proofs.FramedOrder.{IsInner, AreInner}
 use Rattle.wasm_spec_rules.proofs.Tests.{truth, when, unless, guarded, then_some}
 use Rattle.wasm_readers_errors.specs.WasmReadersFeatures.declared.features.WasmFeatures.{WasmFeatures}
@@ -21,7 +21,7 @@ use Rattle.wasm_validator_sections.specs.WasmValidatorCore.declared.limits.TheCo
 use Rattle.wasm_validator_sections.specs.WasmValidatorCore.Items.{is_data_count}
 use Rattle.wasm_validator_sections.specs.WasmValidatorCore.Answers.{TypesSoFar, HasValidTypes}
 use Rattle.wasm_validator_sections.specs.Machine.{tag_items, section_items, start_item, data_count_item, beside}
-use Rattle.wasm_validator_canonical.proofs.Canonical.{and_left, and_right}
+use Rattle.wasm_validator_canonical.proofs.CanonicalTypes.{and_left, and_right}
 use Rattle.std.proofs.lemmas.Option.{same_Some}
 use Rattle.wasm_validator_states.proofs.ValidTypes.{beside_back, section_back}
 

@@ -11,14 +11,14 @@ use Rattle.wasm_spec.specs.Features.{Features}
 use Rattle.wasm_spec_rules.specs.FeatureFlags.{features_of}
 use Rattle.wasm_validator_canonical.specs.Groups.{AreValid}
 use Rattle.wasm_validator_type_list.specs.DefTypes.{types_of_list}
-use Rattle.wasm_validator_types.specs.Shown.{Shown, HoldsIds}
-use Rattle.wasm_validator_states.specs.Standing.{shown_at, Standing, ended}
-use Rattle.wasm_validator_type_list.specs.Listing.{Listing, types_in}
-use Rattle.wasm_validator_type_list.specs.Listing as lists
+use Rattle.wasm_validator_types.specs.ShownModules.{Shown, HoldsIds}
+use Rattle.wasm_validator_states.specs.ValidatorStages.{shown_at, Standing, ended}
+use Rattle.wasm_validator_type_list.specs.ListViews.{Listing, types_in}
+use Rattle.wasm_validator_type_list.specs.ListViews as lists
 use Rattle.wasm_validator_type_list.proofs.DefTypes.{length-def_types}
-use Rattle.wasm_validator_sections.specs.WasmValidatorCore.Ready.{AreIdsOf}
+use Rattle.wasm_validator_sections.specs.WasmValidatorCore.OpenLists.{AreIdsOf}
 use Rattle.wasm_validator_sections.specs.declared.module_state.ModuleState.{ModuleState}
-use Rattle.wasm_validator_states.specs.Ready.{AreIdsIn, AreValidIn, AreFirstIn}
+use Rattle.wasm_validator_states.specs.ModuleInvariants.{AreIdsIn, AreValidIn, AreFirstIn}
 use Rattle.wasm_validator_states.specs.States.{module_ended, after_end}
 use Rattle.wasm_validator_states.specs.Views.{open_of, read_of, stage_of, state_kept}
 use Rattle.std.specs.List.{All}

@@ -7,10 +7,10 @@ use Rattle.wasm_spec.specs.Trees.{DefType}
 use Rattle.wasm_spec_rules.specs.FeatureFlags.{features_of}
 use Rattle.wasm_validator_type_groups.specs.Elements.{numbers_from}
 use Rattle.wasm_validator_type_list.specs.DefTypes.{types_of_list}
-use Rattle.wasm_validator_types.specs.Shown.{shown_of}
+use Rattle.wasm_validator_types.specs.ShownModules.{shown_of}
 use Rattle.wasm_validator_types.specs.declared.shown.Types as shown
 use Rattle.wasm_validator_sections.specs.WasmValidatorCore.Answers.{TypesSoFar}
-use Rattle.wasm_validator_states.specs.Standing.{unparsed, Standing, after_reset}
+use Rattle.wasm_validator_states.specs.ValidatorStages.{unparsed, Standing, after_reset}
 use Rattle.wasm_validator_states.specs.Sequences.{Takes, TakesEach, its_types, all_types, OwnIdForEachType}
 
 -- each id is above those before it, and none is below this

@@ -19,16 +19,16 @@ use Rattle.wasm_validator_sections.specs.WasmValidatorCore.Answers.{TypesSoFar}
 use Rattle.wasm_validator_sections.specs.Bodies.{expected_bodies}
 use Rattle.wasm_validator_sections.specs.declared.code_state.TheConstants.{MAX_FUNCTION_SIZE}
 use Rattle.wasm_validator_sections.specs.Machine.{section_items, start_item, data_count_item, beside}
-use Rattle.wasm_validator_sections.specs.Noted.{Noted, naming, counting}
-use Rattle.wasm_validator_sections.specs.Started.{Started, starting, taking, bodies_left}
-use Rattle.wasm_validator_states.specs.Standing.{Stage, Standing, in_module, in_code, ended, shown_at, within, within_all, at_stage}
+use Rattle.wasm_validator_sections.specs.ModuleNotes.{Noted, naming, counting}
+use Rattle.wasm_validator_sections.specs.CodeProgress.{Started, starting, taking, bodies_left}
+use Rattle.wasm_validator_states.specs.ValidatorStages.{Stage, Standing, in_module, in_code, ended, shown_at, within, within_all, at_stage}
 use Rattle.wasm_validator_states.specs.States.{BodyToValidate, next_function, body_with, handed, after_piece}
 use Rattle.wasm_validator_states.specs.Payloads.{after_all, handed_behind, all_handed}
 use Rattle.wasm_validator_states.proofs.CodeOrder.{IsLate, InOrder, HasStarted}
-use Rattle.wasm_validator_states.proofs.Growing.{body_some}
+use Rattle.wasm_validator_states.proofs.ListGrowth.{body_some}
 use Rattle.wasm_validator_states.proofs.KnownSections.{section_known}
 use Rattle.wasm_validator_states.proofs.ModuleRun.{is_known_section, is_part, section_case, step}
-use Rattle.wasm_validator_states.proofs.TableKept.{data_stays}
+use Rattle.wasm_validator_states.proofs.TableSteps.{data_stays}
 use Rattle.wasm_validator_states.proofs.ValidRules.{AreSmall}
 
 -- a validator in a module, before the start of its code or behind it

@@ -6,12 +6,12 @@ use Rattle.wasm_parser.specs.Machine.{State, next_of}
 use Rattle.wasm_readers_errors.specs.declared.error.Refusal.{Refusal}
 use Rattle.wasm_validator_types.specs.Spaces.{Spaces}
 use Rattle.wasm_validator_sections.specs.WasmValidatorCore.Answers.{TypesSoFar}
-use Rattle.wasm_validator_sections.specs.Started.{Started, bodies_left}
-use Rattle.wasm_validator_states.specs.Standing.{Stage, unparsed, in_module, in_code, ended, failed, Standing, HoldsAt, can_reset_at, may_reset, reset_at, after_reset, refused_at, read_refused_at, body_refused_at, ended_at}
+use Rattle.wasm_validator_sections.specs.CodeProgress.{Started, bodies_left}
+use Rattle.wasm_validator_states.specs.ValidatorStages.{Stage, unparsed, in_module, in_code, ended, failed, Standing, HoldsAt, can_reset_at, may_reset, reset_at, after_reset, refused_at, read_refused_at, body_refused_at, ended_at}
 use Rattle.wasm_validator_states.specs.States.{is_barred, left_by}
 use Rattle.wasm_validator_states.specs.Payloads.{after_all, HasRefused, IsToldOfFormat}
 use Rattle.wasm_validator_states.specs.Sequences.{KeepsTypes, RefusedKeepTypes}
-use Rattle.wasm_validator_states.proofs.Growing.{all_only, all_back}
+use Rattle.wasm_validator_states.proofs.ListGrowth.{all_only, all_back}
 
 -- where a refusal leaves a validator that may be reset, its list was the same before
 module _ (V : TypesSoFar → Type 0) where

@@ -4,7 +4,7 @@ use Rattle.std.specs.Prelude.{◌↔◌}
 use Rattle.std.specs.Option.{option_and_then}
 use Rattle.std.specs.List.{All, flat_map}
 use Rattle.std.proofs.lemmas.Bool.{leb-true, le-leb, and_from}
-use Rattle.wasm_validator_canonical.proofs.Canonical.{and_right}
+use Rattle.wasm_validator_canonical.proofs.CanonicalTypes.{and_right}
 use Rattle.std.proofs.lemmas.Option.{same_Some}
 use Rattle.std.proofs.lemmas.List.{length-append, length-map}
 use Rattle.std.proofs.lemmas.List.Elements.{All-nil, All-cons, All-head, All-tail}
@@ -24,9 +24,9 @@ use Rattle.wasm_spec_rules.specs.Parts.{Parts, HasParts, index, all_items, start
 use Rattle.wasm_spec_rules.specs.IndexSpaces.{index_spaces, imported, functions_in, tables_in, memories_in, globals_in, tags_in, table_type, global_type}
 use Rattle.wasm_spec_rules.specs.LinkRules.{IsValidStart}
 use Rattle.wasm_spec_rules.specs.Modules.{IsAllowedPiece}
-use Rattle.wasm_spec_rules.proofs.Ordered.{Follows}
+use Rattle.wasm_spec_rules.proofs.SectionRanks.{Follows}
 use Rattle.wasm_spec_rules.proofs.Tests.{then_some, guarded, truth, when, unless}
-use Rattle.wasm_readers.specs.Written.{written}
+use Rattle.wasm_readers.specs.WrittenIndices.{written}
 use Rattle.wasm_readers_errors.specs.WasmReadersFeatures.declared.features.WasmFeatures.{WasmFeatures}
 use Rattle.wasm_validator_type_groups.specs.Elements.{numbers_from}
 use Rattle.wasm_validator_types.specs.Spaces.{Spaces, no_spaces}
@@ -34,21 +34,21 @@ use Rattle.wasm_validator_sections.specs.WasmValidatorCore.declared.limits.TheCo
 use Rattle.wasm_validator_sections.specs.WasmValidatorCore.Answers.{TypesSoFar, HasValidTypes}
 use Rattle.wasm_validator_sections.specs.WasmValidatorCore.Machine.{add_group}
 use Rattle.wasm_validator_sections.specs.WasmValidatorCore.Items.{is_startable, is_data_count, add_import, add_function, add_memory, add_tag, add_export}
-use Rattle.wasm_validator_sections.specs.WasmLawsCore.Shown.{listed_table, listed_global, spaces_of}
+use Rattle.wasm_validator_sections.specs.WasmLawsCore.ModuleParts.{listed_table, listed_global, spaces_of}
 use Rattle.wasm_validator_sections.specs.WasmLawsCore.Lists.{only_types, only_imports, up_to_functions, add_imports, add_functions, add_memories, add_tags, add_exports}
 use Rattle.wasm_validator_sections.proofs.WasmLawsCore.AddedItems.{for_each}
-use Rattle.wasm_validator_sections.proofs.WasmLawsCore.Starts.{starts_are_decided}
+use Rattle.wasm_validator_sections.proofs.WasmLawsCore.StartFunctions.{starts_are_decided}
 use Rattle.wasm_validator_sections.specs.WasmLawsContexts.ListedTypes.{types_declare}
 use Rattle.wasm_spec_validity.specs.Expressions.{expression_at}
 use Rattle.wasm_spec_validity.specs.Modules.{Numbering}
-use Rattle.wasm_spec_validity.proofs.Numbered.{types_are_numbered}
+use Rattle.wasm_spec_validity.proofs.FirstAppearances.{types_are_numbered}
 use Rattle.wasm_validator_sections.proofs.WasmLawsModules.SectionTypes.{sections_give_module_types}
 use Rattle.wasm_validator_sections.specs.WasmLawsModules.Contexts.{HasOwnIds}
 use Rattle.wasm_validator_sections.specs.Sections.{read_section}
 use Rattle.wasm_validator_sections.specs.Entries.{add_table_entry, add_global_entry, add_element, add_data}
 use Rattle.wasm_validator_sections.specs.WasmLawsModules.Maps.{map_table_entry, map_global_entry, map_element}
-use Rattle.wasm_validator_sections.specs.WasmLawsModules.Reading.{EntriesAreRenamed}
-use Rattle.wasm_validator_canonical.specs.Apart.{AreApart}
+use Rattle.wasm_validator_sections.specs.WasmLawsModules.OnePassSections.{EntriesAreRenamed}
+use Rattle.wasm_validator_canonical.specs.DistinctTypes.{AreApart}
 use Rattle.wasm_validator_sections.specs.WasmLawsModules.Lists.{add_table_entries, add_global_entries, add_elements, add_segments, add_all_lists, up_to_tables, up_to_memories, up_to_tags, up_to_globals, up_to_exports, AreValidModuleLists}
 use Rattle.wasm_validator_sections.specs.WasmLawsModules.Laws.{AreTypedConstants}
 use Rattle.wasm_validator_sections.specs.Machine.{start_item, data_count_item, beside}

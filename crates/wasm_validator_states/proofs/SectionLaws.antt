@@ -19,15 +19,15 @@ use Rattle.wasm_spec_rules.proofs.Verdicts.{Verdict, verdict_some, verdict_yes}
 use Rattle.wasm_validator_canonical.specs.Groups.{types_at}
 use Rattle.wasm_validator_sections.specs.WasmValidatorChecks.Items.{is_function, is_valid_memory, is_valid_tag}
 use Rattle.wasm_validator_sections.specs.WasmValidatorChecks.Laws.{Stand}
-use Rattle.wasm_validator_sections.proofs.WasmValidatorChecks.Decided.{functions_are_decided, memories_are_decided, tags_are_decided}
+use Rattle.wasm_validator_sections.proofs.WasmValidatorChecks.ItemTests.{functions_are_decided, memories_are_decided, tags_are_decided}
 use Rattle.wasm_validator_types.specs.Spaces.{Spaces}
 use Rattle.wasm_validator_sections.specs.WasmValidatorCore.Answers.{TypesSoFar}
 use Rattle.wasm_validator_sections.specs.WasmValidatorCore.Items.{add_function, add_memory, add_tag}
 use Rattle.wasm_validator_sections.proofs.WasmLawsCore.AddedItems.{of_each, each_changed, IsStep, step_of, items_verdict}
 use Rattle.wasm_validator_sections.specs.Sections.{read_section}
 use Rattle.wasm_validator_sections.specs.Machine.{section_items}
-use Rattle.wasm_validator_sections.specs.Noted.{Noted}
-use Rattle.wasm_validator_states.specs.Standing.{Stage, Standing, in_module, at_stage}
+use Rattle.wasm_validator_sections.specs.ModuleNotes.{Noted}
+use Rattle.wasm_validator_states.specs.ValidatorStages.{Stage, Standing, in_module, at_stage}
 use Rattle.wasm_validator_states.specs.States.{within_by, after_section}
 use Rattle.wasm_validator_sections.specs.WasmValidatorReferences.References.{section_names}
 use Rattle.wasm_validator_states.specs.SectionLaws.{HasAdded, FunctionsAdd, MemoriesAdd, TagsAdd}

@@ -14,11 +14,11 @@ use Rattle.wasm_validator_sections.specs.WasmValidatorCore.Answers.{TypesSoFar, 
 use Rattle.wasm_validator_states.specs.declared.state.State.{State}
 use Rattle.wasm_validator_states.specs.declared.state.State.TheVariants.{Module}
 use Rattle.wasm_validator_sections.specs.declared.module_state.ModuleState.{ModuleState}
-use Rattle.wasm_validator_sections.specs.Noted.{Noted, noted_of}
-use Rattle.wasm_validator_states.specs.Standing.{Stage, in_module, Standing, HoldsValid, refused_at, read_refused_at, within, at_stage, Moves}
+use Rattle.wasm_validator_sections.specs.ModuleNotes.{Noted, noted_of}
+use Rattle.wasm_validator_states.specs.ValidatorStages.{Stage, in_module, Standing, HoldsValid, refused_at, read_refused_at, within, at_stage, Moves}
 use Rattle.wasm_validator_states.specs.States.{section_refused_at}
 use Rattle.wasm_validator_states.specs.Views.{stage_of, state_kept}
-use Rattle.wasm_validator_states.proofs.Growing.{within_some}
+use Rattle.wasm_validator_states.proofs.ListGrowth.{within_some}
 
 module _ (id : ℕ) (features : WasmFeatures) (types : TypesSoFar) (m : Spaces) (k : Noted) (note : Noted → Noted) where
   abbrev before : Standing

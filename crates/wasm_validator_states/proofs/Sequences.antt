@@ -11,10 +11,10 @@ use Rattle.wasm_spec_rules.specs.FeatureFlags.{features_of}
 use Rattle.wasm_validator_canonical.specs.Sections.{StandsFor}
 use Rattle.wasm_validator_canonical.proofs.Sections.{one_id_for_one_type}
 use Rattle.wasm_validator_type_list.specs.DefTypes.{types_of_list}
-use Rattle.wasm_validator_types.specs.Shown.{shown_of}
+use Rattle.wasm_validator_types.specs.ShownModules.{shown_of}
 use Rattle.wasm_validator_types.specs.declared.shown.Types as shown
 use Rattle.wasm_validator_sections.specs.WasmValidatorCore.Answers.{TypesSoFar}
-use Rattle.wasm_validator_states.specs.Standing.{unparsed, Standing, after_reset}
+use Rattle.wasm_validator_states.specs.ValidatorStages.{unparsed, Standing, after_reset}
 use Rattle.wasm_validator_states.specs.Verdict.{AcceptsModule}
 use Rattle.wasm_validator_states.specs.Sequences.{KeepsTypes, Takes, TakesEach, its_types, all_types, OneIdForOneType}
 

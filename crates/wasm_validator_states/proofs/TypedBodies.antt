@@ -17,7 +17,7 @@ use Rattle.wasm_spec_rules.specs.LinkRules.{referenced}
 use Rattle.wasm_spec_rules.specs.Modules.{IsAllowedPiece}
 use Rattle.wasm_spec_rules.specs.Parts.{Parts, bodies_of, data_counts_of}
 use Rattle.wasm_spec_rules.specs.Sections.{ranks, at_rank}
-use Rattle.wasm_spec_rules.proofs.Ordered.{Follows}
+use Rattle.wasm_spec_rules.proofs.SectionRanks.{Follows}
 use Rattle.wasm_readers_errors.specs.WasmReadersFeatures.declared.features.WasmFeatures.{WasmFeatures}
 use Rattle.wasm_readers_types.specs.WasmReadersValues.declared.indices.UnpackedIndex.{UnpackedIndex}
 use Rattle.wasm_validator_type_groups.proofs.Places.{get-right}
@@ -27,15 +27,15 @@ use Rattle.wasm_spec_validity.specs.Typing.{HasTypedBodies}
 use Rattle.wasm_spec_validity.specs.Modules.{context_of}
 use Rattle.wasm_validator_sections.specs.WasmValidatorReferences.References.{section_names, piece_names, marked}
 use Rattle.wasm_validator_sections.specs.WasmLawsContexts.WasmValidatorCoreResources.ModuleContexts.{flagged_from}
-use Rattle.wasm_validator_sections.specs.WasmLawsCore.Shown.{spaces_of}
+use Rattle.wasm_validator_sections.specs.WasmLawsCore.ModuleParts.{spaces_of}
 use Rattle.wasm_validator_sections.specs.WasmValidatorFunc.Functions.{IsFunctionBody}
 use Rattle.wasm_validator_types.specs.Spaces.{Spaces}
 use Rattle.wasm_validator_sections.specs.WasmValidatorCore.Answers.{TypesSoFar}
 use Rattle.wasm_validator_sections.proofs.WasmLawsModules.SectionTypes.{sections_give_module_types}
 use Rattle.wasm_validator_sections.specs.WasmLawsModules.BodyContexts.{code_context}
-use Rattle.wasm_validator_canonical.specs.Apart.{AreApart}
-use Rattle.wasm_validator_sections.specs.Noted.{Noted, nothing_noted, naming, counting}
-use Rattle.wasm_validator_sections.specs.Started.{Started, starting, taking}
+use Rattle.wasm_validator_canonical.specs.DistinctTypes.{AreApart}
+use Rattle.wasm_validator_sections.specs.ModuleNotes.{Noted, nothing_noted, naming, counting}
+use Rattle.wasm_validator_sections.specs.CodeProgress.{Started, starting, taking}
 use Rattle.wasm_validator_states.specs.States.{BodyToValidate, next_function, body_with}
 use Rattle.wasm_validator_states.specs.Payloads.{IsBodyOfIts}
 use Rattle.wasm_validator_states.proofs.AddedTypes.{section, type_space, list_after, ids}

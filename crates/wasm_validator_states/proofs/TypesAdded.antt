@@ -17,13 +17,13 @@ use Rattle.wasm_spec_rules.specs.Parts.{index}
 use Rattle.wasm_spec_rules.specs.Sections.{each}
 use Rattle.wasm_spec_rules.specs.Limits.{most_types}
 use Rattle.wasm_spec_rules.proofs.Tests.{then_some, guarded}
-use Rattle.wasm_readers.specs.Written.{written}
+use Rattle.wasm_readers.specs.WrittenIndices.{written}
 use Rattle.wasm_readers_errors.specs.WasmReadersFeatures.declared.features.WasmFeatures.{WasmFeatures}
 use Rattle.wasm_validator_canonical.specs.Groups.{placed, AreValid}
-use Rattle.wasm_spec.proofs.Accepted.{length-positions}
-use Rattle.wasm_validator_canonical.proofs.Kept.{length_held, all_held}
+use Rattle.wasm_spec.proofs.AcceptedSections.{length-positions}
+use Rattle.wasm_validator_canonical.proofs.KeptTypes.{length_held, all_held}
 use Rattle.wasm_validator_canonical.proofs.Steps.{fits_added, added_fits, written_length}
-use Rattle.wasm_validator_canonical.proofs.StoodFor.{held_stand, valid_placed}
+use Rattle.wasm_validator_canonical.proofs.IdMeanings.{held_stand, valid_placed}
 use Rattle.wasm_validator_canonical.specs.Sections.{StandsFor}
 use Rattle.wasm_validator_sections.specs.WasmValidatorChecks.Laws.{Stand}
 use Rattle.wasm_validator_types.specs.Spaces.{Spaces}
@@ -31,15 +31,15 @@ use Rattle.wasm_validator_sections.specs.WasmValidatorCore.Answers.{TypesSoFar}
 use Rattle.wasm_validator_sections.specs.WasmValidatorCore.Machine.{with_ids, add_group}
 use Rattle.wasm_validator_sections.proofs.WasmLawsCore.AddedItems.{each_changed}
 use Rattle.wasm_validator_sections.specs.Machine.{type_items}
-use Rattle.wasm_validator_sections.specs.Noted.{Noted, naming}
-use Rattle.wasm_validator_states.specs.Standing.{Stage, Standing, in_module, HoldsAt, HoldsValid, within, at_stage}
+use Rattle.wasm_validator_sections.specs.ModuleNotes.{Noted, naming}
+use Rattle.wasm_validator_states.specs.ValidatorStages.{Stage, Standing, in_module, HoldsAt, HoldsValid, within, at_stage}
 use Rattle.wasm_validator_states.specs.SectionLaws.{TypesHeld, FitsGroup, held_with, with_group, AddsGroups, TypesAdd}
 use Rattle.wasm_validator_states.proofs.AddedTypes.{as_many_zipped, one_group, one_ends}
-use Rattle.wasm_validator_states.proofs.Growing.{within_some}
+use Rattle.wasm_validator_states.proofs.ListGrowth.{within_some}
 use Rattle.wasm_validator_sections.proofs.ItemSteps.{each_back}
 use Rattle.wasm_validator_states.proofs.SectionLaws.{at_module}
 use Rattle.wasm_validator_sections.proofs.SectionEntries.{limited, section_entries}
-use Rattle.wasm_validator_sections.proofs.GroupsGrow.{valid_back}
+use Rattle.wasm_validator_sections.proofs.GroupGrowth.{valid_back}
 
 module _ (features : WasmFeatures) (m : Spaces) where
   abbrev F : Features

@@ -1,8 +1,8 @@
 -- The laws of lower crates from which it is proved that a run decides whether bytes are a valid module.
-use Rattle.wasm_validator_canonical.specs.Apart.{AddedTypesStayApart, ApartTypesAreDistinct}
+use Rattle.wasm_validator_canonical.specs.DistinctTypes.{AddedTypesStayApart, ApartTypesAreDistinct}
 use Rattle.wasm_validator_sections.specs.WasmLawsModules.Laws.{AllListsAreAdded}
-use Rattle.wasm_validator_sections.specs.WasmLawsModules.Reading.{EntriesAreRenamed}
-use Rattle.wasm_validator_canonical.proofs.Apart.{added_types_stay_apart, apart_types_are_distinct}
+use Rattle.wasm_validator_sections.specs.WasmLawsModules.OnePassSections.{EntriesAreRenamed}
+use Rattle.wasm_validator_canonical.proofs.DistinctLists.{added_types_stay_apart, apart_types_are_distinct}
 use Rattle.wasm_validator_sections.proofs.WasmLawsModules.ConstantsOverNumbers.{constants_are_over_numbers}
 use Rattle.wasm_validator_sections.proofs.WasmLawsModules.MatchingOverIds.{references_match_over_ids}
 use Rattle.wasm_validator_sections.proofs.WasmLawsModules.AllModuleLists.{all_lists_added}
@@ -11,8 +11,8 @@ use Rattle.wasm_validator_sections.specs.WasmLawsModules.BodyContexts.{BodiesAre
 use Rattle.wasm_validator_sections.proofs.WasmLawsModules.Bodies.{bodies_are_over_numbers}
 use Rattle.wasm_spec_rules.specs.Bodies.{BodiesAreAsManyAsFunctions}
 use Rattle.wasm_spec_rules.proofs.Bodies.{bodies_are_as_many_as_functions}
-use Rattle.wasm_validator_sections.specs.WasmValidatorReferences.Naming.{PiecesNameWhatIsReferenced}
-use Rattle.wasm_validator_sections.proofs.WasmValidatorReferences.Referenced.{pieces_name_what_is_referenced}
+use Rattle.wasm_validator_sections.specs.WasmValidatorReferences.NamedFunctions.{PiecesNameWhatIsReferenced}
+use Rattle.wasm_validator_sections.proofs.WasmValidatorReferences.PieceReferences.{pieces_name_what_is_referenced}
 use Rattle.wasm_validator_sections.specs.WasmValidatorReferences.Marks.{MarkedFlagsSayNames}
 use Rattle.wasm_validator_sections.proofs.WasmValidatorReferences.Marks.{flags_say_names}
 use Rattle.wasm_validator_sections.specs.WasmLawsContexts.WasmValidatorCoreResources.ModuleContexts.{FlagsSayReferences}

@@ -20,7 +20,7 @@ use Rattle.wasm_spec_validity.specs.Modules.{Numbering, IsValidUpToBodies, IsVal
 use Rattle.wasm_validator_canonical.specs.Sections.{StandsFor}
 use Rattle.wasm_validator_canonical.proofs.Sections.{added_sections_are_valid, counted_sections_are_added}
 use Rattle.wasm_validator_canonical.specs.Groups.{AreValid}
-use Rattle.wasm_validator_canonical.specs.Apart.{AreApart}
+use Rattle.wasm_validator_canonical.specs.DistinctTypes.{AreApart}
 use Rattle.wasm_validator_sections.specs.WasmValidatorCore.declared.limits.TheConstants.{MAX_TYPES}
 use Rattle.wasm_validator_sections.specs.WasmValidatorCore.Answers.{TypesSoFar}
 use Rattle.wasm_validator_states.specs.Verdict.{HasIdsWith}

@@ -7,10 +7,10 @@ use Rattle.wasm_validator_canonical.specs.Groups.{AreValid}
 use Rattle.wasm_validator_types.specs.Spaces.{Spaces}
 use Rattle.wasm_validator_sections.specs.WasmValidatorCore.Answers.{TypesSoFar, HasValidTypes}
 use Rattle.wasm_validator_sections.specs.Machine.{section_items, beside}
-use Rattle.wasm_validator_states.specs.Standing.{Standing, HoldsAt, HoldsValid}
+use Rattle.wasm_validator_states.specs.ValidatorStages.{Standing, HoldsAt, HoldsValid}
 use Rattle.wasm_validator_states.specs.Payloads.{after_all}
-use Rattle.wasm_validator_sections.proofs.GroupsGrow.{fronts_valid}
-use Rattle.wasm_validator_states.proofs.Growing as growing
+use Rattle.wasm_validator_sections.proofs.GroupGrowth.{fronts_valid}
+use Rattle.wasm_validator_states.proofs.ListGrowth as growing
 
 module _ (features : WasmFeatures) where
   abbrev V : TypesSoFar → Type 0

@@ -18,23 +18,23 @@ use Rattle.wasm_spec_rules.proofs.Tests.{then_some}
 use Rattle.wasm_readers_errors.specs.WasmReadersFeatures.declared.features.WasmFeatures.{WasmFeatures}
 use Rattle.wasm_validator_types.specs.Spaces.{Spaces, no_spaces}
 use Rattle.wasm_validator_type_list.specs.DefTypes.{def_types, types_of_list}
-use Rattle.wasm_validator_types.specs.Shown.{shown_of, HoldsIds}
+use Rattle.wasm_validator_types.specs.ShownModules.{shown_of, HoldsIds}
 use Rattle.wasm_validator_types.specs.declared.shown.Types as shown
 use Rattle.wasm_validator_sections.specs.WasmValidatorCore.declared.error.Error.{Error}
 use Rattle.wasm_validator_sections.specs.WasmValidatorCore.declared.error.Error.TheVariants.{Refused, DuplicateExport, InFunction, OutOfMemory}
 use Rattle.wasm_validator_canonical.specs.Groups.{AreValid}
-use Rattle.wasm_validator_canonical.specs.Counted.{AreWith}
-use Rattle.wasm_validator_canonical.proofs.Counted.{with_at_most}
+use Rattle.wasm_validator_canonical.specs.TypeTotals.{AreWith}
+use Rattle.wasm_validator_canonical.proofs.TypeCounts.{with_at_most}
 use Rattle.wasm_validator_canonical.proofs.Sections.{added_types_are_counted}
 use Rattle.wasm_validator_sections.specs.WasmValidatorCore.Answers.{TypesSoFar, HasValidTypes}
-use Rattle.wasm_validator_canonical.specs.Apart.{AreApart}
-use Rattle.wasm_validator_sections.specs.Noted.{nothing_noted}
-use Rattle.wasm_validator_sections.specs.Started.{starting}
-use Rattle.wasm_validator_states.specs.Standing.{Stage, Standing, unparsed, in_module, in_code, ended, failed, fresh, shown_at, HoldsAt, AreValidAt, HoldsValid}
+use Rattle.wasm_validator_canonical.specs.DistinctTypes.{AreApart}
+use Rattle.wasm_validator_sections.specs.ModuleNotes.{nothing_noted}
+use Rattle.wasm_validator_sections.specs.CodeProgress.{starting}
+use Rattle.wasm_validator_states.specs.ValidatorStages.{Stage, Standing, unparsed, in_module, in_code, ended, failed, fresh, shown_at, HoldsAt, AreValidAt, HoldsValid}
 use Rattle.wasm_validator_states.specs.States.{after_piece, after_version, BodyToValidate, handed, IsBeforeEnd}
 use Rattle.wasm_validator_states.specs.Payloads.{Show, after_all, handed_behind, all_handed, Accepts, Rejects, IsBodyOfIts, RefusesOne, DecidesBodies, IsBehindCode, Runs, Validates}
-use Rattle.wasm_validator_states.specs.Shows.{ShowModule}
-use Rattle.wasm_validator_states.specs.Driven.{PayloadsDecide}
+use Rattle.wasm_validator_states.specs.ShownModules.{ShowModule}
+use Rattle.wasm_validator_states.specs.PayloadVerdicts.{PayloadsDecide}
 use Rattle.wasm_validator_states.specs.Verdict.{StandsApart, AcceptsModule, RefusesModule, RefusesUpToBodies, EndsModule, StopsModule, DecidesModule, DecidesAlone, HasIdsWith}
 use Rattle.wasm_validator_states.proofs.AddedTypes.{section, type_space, list_after}
 use Rattle.wasm_validator_states.proofs.ModuleRun.{step, is_part, are_parts, run_allowed}
@@ -55,7 +55,7 @@ use Rattle.wasm_spec_validity.specs.Expressions.{expression_at}
 use Rattle.std.proofs.lemmas.List.{length-append}
 use Rattle.std.proofs.lemmas.Option.{same_Some}
 use Rattle.wasm_validator_sections.specs.Bodies.{expected_bodies}
-use Rattle.wasm_validator_type_list.proofs.Grouped.{all-right}
+use Rattle.wasm_validator_type_list.proofs.GroupMatching.{all-right}
 
 -- one of some
 pub one_of : {X : Type 0} (P : X → Type 0) (xs ys rest : List X) (x : X) → xs ≡ ys ++ x ∷ rest → All P xs → P x

@@ -5,20 +5,20 @@ pub use Rattle.wasm_validator_types.specs as WasmValidatorTypes
 pub use Rattle.wasm_validator_canonical.specs as WasmValidatorCanonical
 pub use Rattle.wasm_validator_sections.specs as WasmValidatorSections
 pub use Rattle.wasm_validator_sections.specs.WasmValidatorCore as WasmValidatorCore
-pub mod Held
-pub mod Seen
-pub mod LendsHeld
-pub mod LendsInner
-pub mod Standing
+pub mod MaybeOwnedValues
+pub mod MaybeOwnedFields
+pub mod LentValues
+pub mod LentInners
+pub mod ValidatorStages
 pub mod States
-pub mod Shows
+pub mod ShownModules
 pub mod Payloads
 pub mod Verdict
-pub mod Driven
+pub mod PayloadVerdicts
 pub mod Sequences
 pub mod Table
 pub mod SectionLaws
 pub mod Views
-pub mod Ready
-pub mod Taken
-pub mod OrderTold
+pub mod ModuleInvariants
+pub mod BodyAnswers
+pub mod OrderRefusals

@@ -10,11 +10,11 @@ use Rattle.wasm_parser.specs.Places.{IsFormat}
 use Rattle.wasm_readers_errors.specs.declared.error.Refusal.{Refusal}
 use Rattle.wasm_spec.specs.Features.{canonical}
 use Rattle.wasm_spec_rules.specs.FeatureFlags.{features_of}
-use Rattle.wasm_validator_type_list.specs.Interned.{AreOnce}
+use Rattle.wasm_validator_type_list.specs.GroupInterning.{AreOnce}
 use Rattle.wasm_validator_type_list.specs.DefTypes.{types_of_list}
-use Rattle.wasm_validator_type_list.specs.Listing.{types_in}
-use Rattle.wasm_validator_sections.specs.WasmLawsCore.Held.{AreOver}
-use Rattle.wasm_validator_types.specs.Shown.{shown_of, HoldsIds}
+use Rattle.wasm_validator_type_list.specs.ListViews.{types_in}
+use Rattle.wasm_validator_sections.specs.WasmLawsCore.ShownTypeIds.{AreOver}
+use Rattle.wasm_validator_types.specs.ShownModules.{shown_of, HoldsIds}
 use Rattle.wasm_validator_types.specs.declared.shown.Types.{Types}
 use Rattle.wasm_validator_sections.specs.WasmValidatorCore.declared.error.Error.{Error}
 use Rattle.wasm_validator_sections.specs.WasmValidatorCore.declared.error.Error.TheVariants.{Refused, DuplicateExport, InFunction, OutOfMemory}
@@ -22,7 +22,7 @@ use Rattle.std.specs.List.{All}
 use Rattle.wasm_validator_sections.specs.WasmValidatorFunc.Functions.{IsFunctionBody}
 use Rattle.wasm_validator_canonical.specs.Groups.{AreValid}
 use Rattle.wasm_validator_sections.specs.WasmValidatorCore.Answers.{IsNowhere}
-use Rattle.wasm_validator_states.specs.Standing.{Stage, unparsed, in_module, in_code, ended, Standing, shown_at, failed, HoldsValid, HasNotEnded}
+use Rattle.wasm_validator_states.specs.ValidatorStages.{Stage, unparsed, in_module, in_code, ended, Standing, shown_at, failed, HoldsValid, HasNotEnded}
 use Rattle.wasm_validator_states.specs.States.{BodyToValidate, handed, after_piece, left_by, takes_memory}
 
 -- The types show what the validator held, in a list where equal types are one if the features ask for it; then no

@@ -19,20 +19,20 @@ use Rattle.wasm_spec_rules.specs.ItemRules.{IsValidTableEntry, IsValidMemory, Is
 use Rattle.wasm_spec_rules.specs.LinkRules.{IsValidExport}
 use Rattle.wasm_spec_rules.specs.Limits.{most_types, most_imports, most_functions, most_tables, most_memories, most_globals, most_tags, most_exports, most_elements, most_segments}
 use Rattle.wasm_readers_types.specs.WasmReadersValues.declared.indices.TheConstants.{MAX_IDS}
-use Rattle.wasm_readers.specs.Written.{written}
+use Rattle.wasm_readers.specs.WrittenIndices.{written}
 use Rattle.wasm_validator_canonical.specs.Groups.{placed, held}
 use Rattle.wasm_validator_sections.specs.WasmValidatorChecks.Laws.{Stand}
 use Rattle.wasm_validator_types.specs.Spaces.{Spaces}
 use Rattle.wasm_validator_sections.specs.WasmValidatorCore.Answers.{TypesSoFar}
 use Rattle.wasm_validator_sections.specs.WasmLawsCore.Exports.{HasSpaces, FitExports, with_exports}
 use Rattle.wasm_validator_sections.specs.WasmLawsCore.Imports.{KeepsLimits, FitsImport, with_entry}
-use Rattle.wasm_validator_sections.specs.WasmLawsCore.Shown.{listed, listed_table, listed_global, listed_element}
+use Rattle.wasm_validator_sections.specs.WasmLawsCore.ModuleParts.{listed, listed_table, listed_global, listed_element}
 use Rattle.wasm_validator_sections.specs.WasmLawsContexts.ListedTypes.{types_declare}
 use Rattle.wasm_spec_validity.specs.Expressions.{expression_at}
 use Rattle.wasm_validator_sections.specs.Entries.{is_constant_of, is_constant_or_none, are_items, may_be_placed, may_be_stored}
 use Rattle.wasm_validator_sections.specs.WasmLawsModules.Maps.{map_items}
-use Rattle.wasm_validator_sections.specs.Noted.{Noted, naming}
-use Rattle.wasm_validator_states.specs.Standing.{Standing, in_module, HoldsValid}
+use Rattle.wasm_validator_sections.specs.ModuleNotes.{Noted, naming}
+use Rattle.wasm_validator_states.specs.ValidatorStages.{Standing, in_module, HoldsValid}
 use Rattle.wasm_validator_sections.specs.WasmValidatorReferences.References.{names_of_tables, names_of_globals, names_of_exports, names_of_elements}
 use Rattle.wasm_validator_states.specs.States.{after_section}
 

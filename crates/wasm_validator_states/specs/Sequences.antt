@@ -6,10 +6,10 @@ use Rattle.wasm_spec.specs.Features.{canonical}
 use Rattle.wasm_spec.specs.Trees.{DefType}
 use Rattle.wasm_spec_rules.specs.FeatureFlags.{features_of}
 use Rattle.wasm_readers_errors.specs.declared.error.Refusal.{Refusal}
-use Rattle.wasm_validator_types.specs.Shown.{shown_of}
+use Rattle.wasm_validator_types.specs.ShownModules.{shown_of}
 use Rattle.wasm_validator_types.specs.declared.shown.Types as shown
 use Rattle.wasm_validator_sections.specs.WasmValidatorCore.Answers.{TypesSoFar}
-use Rattle.wasm_validator_states.specs.Standing.{Standing, unparsed, may_reset, after_reset}
+use Rattle.wasm_validator_states.specs.ValidatorStages.{Standing, unparsed, may_reset, after_reset}
 use Rattle.wasm_validator_states.specs.Payloads.{IsLeft}
 use Rattle.wasm_validator_states.specs.Verdict.{AcceptsModule}
 

@@ -10,9 +10,9 @@ use Rattle.wasm_readers_types.specs.WasmReadersValues.declared.indices.UnpackedI
 use Rattle.wasm_validator_sections.specs.WasmValidatorReferences.References.{section_names}
 use Rattle.wasm_validator_sections.specs.declared.code_state.TheConstants.{MAX_FUNCTION_SIZE}
 use Rattle.wasm_validator_sections.specs.WasmValidatorCore.Answers.{TypesSoFar}
-use Rattle.wasm_validator_sections.specs.Noted.{nothing_noted, naming, counting, noting_nothing}
-use Rattle.wasm_validator_sections.specs.Started.{Started, starting, taking, bodies_left}
-use Rattle.wasm_validator_states.specs.Standing.{Stage, unparsed, in_module, in_code, ended, failed, Standing, ended_at, refused_at, read_refused_at, body_refused_at, within, within_all, at_stage}
+use Rattle.wasm_validator_sections.specs.ModuleNotes.{nothing_noted, naming, counting, noting_nothing}
+use Rattle.wasm_validator_sections.specs.CodeProgress.{Started, starting, taking, bodies_left}
+use Rattle.wasm_validator_states.specs.ValidatorStages.{Stage, unparsed, in_module, in_code, ended, failed, Standing, ended_at, refused_at, read_refused_at, body_refused_at, within, within_all, at_stage}
 use Rattle.wasm_validator_sections.specs.Machine.{section_items, start_item, data_count_item, beside}
 
 -- the header of a module of version 1 begins a module

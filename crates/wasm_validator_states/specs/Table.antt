@@ -4,8 +4,8 @@ use Rattle.wasm_spec.specs.Framing as parts
 use Rattle.wasm_spec.specs.Framing.{Piece, Version, Custom, Counted, Start, DataCount, CodeStart, CodeEntry, Unknown}
 use Rattle.wasm_spec_rules.specs.StateTable as table
 use Rattle.wasm_spec_rules.specs.StateTable.{Phase, Call, header, section, barred_section, code_start, code_entry, data_section, custom, unknown, accepted_to, refused_to}
-use Rattle.wasm_validator_sections.specs.Started.{starting, bodies_left}
-use Rattle.wasm_validator_states.specs.Standing.{Stage, unparsed, in_module, in_code, ended, failed, Standing}
+use Rattle.wasm_validator_sections.specs.CodeProgress.{starting, bodies_left}
+use Rattle.wasm_validator_states.specs.ValidatorStages.{Stage, unparsed, in_module, in_code, ended, failed, Standing}
 use Rattle.wasm_validator_states.specs.States.{after_piece, is_barred, left_by}
 
 -- so many bodies are to come

@@ -11,15 +11,15 @@ use Rattle.wasm_spec_rules.specs.IndexSpaces.{index_spaces}
 use Rattle.wasm_spec_validity.specs.Modules.{IsValidModule, IsValidUpToBodies}
 use Rattle.wasm_validator_type_groups.specs.Elements.{numbers_from}
 use Rattle.wasm_validator_type_list.specs.DefTypes.{types_of_list}
-use Rattle.wasm_validator_canonical.specs.Apart.{AreApart}
-use Rattle.wasm_validator_canonical.specs.Counted.{with_types, AreWith}
-use Rattle.wasm_validator_types.specs.Shown.{shown_of}
+use Rattle.wasm_validator_canonical.specs.DistinctTypes.{AreApart}
+use Rattle.wasm_validator_canonical.specs.TypeTotals.{with_types, AreWith}
+use Rattle.wasm_validator_types.specs.ShownModules.{shown_of}
 use Rattle.wasm_validator_types.specs.declared.shown.Types as shown
 use Rattle.wasm_validator_sections.specs.WasmValidatorCore.declared.error.Error.{Error}
 use Rattle.wasm_validator_sections.specs.WasmValidatorCore.declared.error.Error.TheVariants.{Refused, DuplicateExport, InFunction, OutOfMemory}
-use Rattle.wasm_validator_states.specs.Shows.{ShowModule}
+use Rattle.wasm_validator_states.specs.ShownModules.{ShowModule}
 use Rattle.wasm_validator_sections.specs.WasmValidatorCore.Answers.{TypesSoFar}
-use Rattle.wasm_validator_states.specs.Standing.{Standing, unparsed, ended, fresh, HoldsAt, HasNotEnded}
+use Rattle.wasm_validator_states.specs.ValidatorStages.{Standing, unparsed, ended, fresh, HoldsAt, HasNotEnded}
 use Rattle.wasm_validator_states.specs.Payloads.{IsLeft, IsOutOfMemory, RefusesBody}
 
 -- the types that a validator holds are told apart, as its features ask

@@ -12,9 +12,9 @@ use Rattle.wasm_validator_states.specs.declared.state.EndedSpaces.{EndedSpaces}
 use Rattle.wasm_validator_states.specs.declared.state.EndedSpaces.TheVariants.{Owned, Shared}
 use Rattle.wasm_validator_states.specs.declared.state.State.TheVariants.{Unparsed, Module, Code, End, Failed}
 use Rattle.wasm_validator_sections.specs.WasmValidatorCore.Answers.{TypesSoFar}
-use Rattle.wasm_validator_sections.specs.Noted.{noted_of}
-use Rattle.wasm_validator_sections.specs.Started.{started_of}
-use Rattle.wasm_validator_states.specs.Standing.{Stage, unparsed, in_module, in_code, ended, failed}
+use Rattle.wasm_validator_sections.specs.ModuleNotes.{noted_of}
+use Rattle.wasm_validator_sections.specs.CodeProgress.{started_of}
+use Rattle.wasm_validator_states.specs.ValidatorStages.{Stage, unparsed, in_module, in_code, ended, failed}
 
 module _ {A : Type 0} where
   -- the module that is being read, before the start of its code

@@ -10,7 +10,7 @@
 mod maybe_owned;
 pub mod state;
 
-ghost use Rattle.wasm_validator_states.specs.Driven.{PayloadsDecide};
+ghost use Rattle.wasm_validator_states.specs.PayloadVerdicts.{PayloadsDecide};
 ghost use Rattle.wasm_validator_states.specs.Sequences.{OneIdForOneType, OwnIdForEachType, RefusedKeepTypes};
 ghost use Rattle.wasm_validator_states.specs.SectionLaws.{TypesAdd, ImportsAdd, FunctionsAdd, TablesAdd, MemoriesAdd, TagsAdd, GlobalsAdd, ExportsAdd, ElementsAdd, SegmentsAdd};
 ghost use Rattle.wasm_validator_states.specs.Table.{AcceptedByTable, RefusedByTable};
@@ -19,7 +19,7 @@ pub use maybe_owned::MaybeOwned;
 
 /// A payload that is accepted leads a validator where the state table says, and one that is
 /// refused, for its content or for want of memory, leaves it where the table says.
-#[tactic(auto, using(crate::proofs::TableKept::table_laws))]
+#[tactic(auto, using(crate::proofs::TableSteps::table_laws))]
 pub fn state_table()
     ensures accepted { AcceptedByTable }
     ensures refused { RefusedByTable }
@@ -80,9 +80,9 @@ pub mod parser {
 pub mod sections {
     pub use wasm_validator_sections::{
         CodeState, Constants, ExpressionMemory, MAX_FUNCTION_SIZE, ModuleState,
-        ReferencedFunctions, add_functions, add_imports, add_memories, add_tags, add_types,
-        check_data_segments, operator_validator, operators, started, take_elements, take_exports,
-        take_globals, take_tables, tells_types_apart, validator_core, validator_core_resources,
+        ReferencedFunctions, add_elements, add_exports, add_functions, add_globals, add_imports,
+        add_memories, add_tables, add_tags, add_types, check_data_segments, operator_validator,
+        operators, started, tells_types_apart, validator_core, validator_core_resources,
         validator_func,
     };
 }

@@ -1,8 +1,8 @@
 //! A value that is written while it is owned and only read once it is shared.
 ghost use Rattle.std.specs.Prelude.{◌≡◌, ◌↔◌, IfOk, IfSome, IsOk, IsSome, OnErr, OnOk, false, true};
 ghost use Rattle.std.specs.Borrow.{sem};
-ghost use Rattle.wasm_validator_states.specs.Held.{Held, owned, shared, is_owned, value_of};
-ghost use Rattle.wasm_validator_states.specs.LendsHeld.{lends_owned, lends_value, ends_shared};
+ghost use Rattle.wasm_validator_states.specs.MaybeOwnedValues.{Held, owned, shared, is_owned, value_of};
+ghost use Rattle.wasm_validator_states.specs.LentValues.{lends_owned, lends_value, ends_shared};
 
 use core::mem::replace_with;
 use std::alloc::{AllocError, Allocator, Global};
@@ -27,11 +27,11 @@ pub struct MaybeOwned<T, A: Allocator = Global> {
 }
 
 impl<T, A: Allocator> Model for MaybeOwned<T, A> {
-    ghost use Rattle.wasm_validator_states.specs.Held.{Held};
+    ghost use Rattle.wasm_validator_states.specs.MaybeOwnedValues.{Held};
 
     ghost Value = { Held T };
 
-    ghost use Rattle.wasm_validator_states.specs.Seen.{seen};
+    ghost use Rattle.wasm_validator_states.specs.MaybeOwnedFields.{seen};
 
     ghost view = { λ a. seen a.inner };
 }
@@ -113,8 +113,8 @@ impl<T: Default, A: Allocator> Default for MaybeOwned<T, A> {
 }
 
 impl<T, A: Allocator> Inner<T, A> {
-    ghost use Rattle.wasm_validator_states.specs.LendsInner.{lends_inner, lends_inner_value};
-    ghost use Rattle.wasm_validator_states.specs.Seen.{seen};
+    ghost use Rattle.wasm_validator_states.specs.LentInners.{lends_inner, lends_inner_value};
+    ghost use Rattle.wasm_validator_states.specs.MaybeOwnedFields.{seen};
 
     /// The value to write to, exactly while it is owned.
     fn as_mut(&mut self) -> Option<&mut T>

@@ -5,20 +5,20 @@
 //! added in part is dropped with the module, and no code undoes it.
 
 ghost use Rattle.std.specs.Prelude.{◌≡◌, ◌+◌, List, IfOk, IfErr, IfSome, IfNone, OnOk, OnErr, Some, None, true, false, is_ok, length, nat_le};
-ghost use Rattle.wasm_parser.specs.Seen.{body_of, body_reader};
+ghost use Rattle.wasm_parser.specs.PayloadViews.{body_of, body_reader};
 ghost use Rattle.wasm_readers.specs.WasmReadersBytes.Reader.{original, position_in};
 ghost use Rattle.wasm_readers_errors.specs.Refusals.{plain};
 ghost use Rattle.wasm_readers_types.specs.declared.types.SubType.{SubType};
 ghost use Rattle.wasm_spec_rules.specs.FeatureFlags.{features_of};
-ghost use Rattle.wasm_validator_sections.specs.SectionsTold.{OfContent};
+ghost use Rattle.wasm_validator_sections.specs.SectionFaults.{OfContent};
 ghost use Rattle.wasm_validator_sections.specs.WasmValidatorCore.Answers.{TypesSoFar};
 ghost use Rattle.wasm_validator_sections.specs.declared.code_state.TheConstants.{MAX_FUNCTION_SIZE};
-ghost use Rattle.wasm_validator_states.specs.Ready.{AreIdsIn, AreValidIn, AreFirstIn};
-ghost use Rattle.wasm_validator_states.specs.Taken.{TakesBody};
+ghost use Rattle.wasm_validator_states.specs.ModuleInvariants.{AreIdsIn, AreValidIn, AreFirstIn};
+ghost use Rattle.wasm_validator_states.specs.BodyAnswers.{TakesBody};
 ghost use Rattle.wasm_validator_states.specs.Views.{open_of, read_of, ended_spaces, stage_of, order_at, end_order_at, body_order_at, state_kept};
-ghost use Rattle.wasm_validator_type_list.specs.Interned.{AreOnce};
-ghost use Rattle.wasm_validator_type_list.specs.Listing.{Listing, committed};
-ghost use Rattle.wasm_validator_types.specs.Shown.{shown_of};
+ghost use Rattle.wasm_validator_type_list.specs.GroupInterning.{AreOnce};
+ghost use Rattle.wasm_validator_type_list.specs.ListViews.{Listing, committed};
+ghost use Rattle.wasm_validator_types.specs.ShownModules.{shown_of};
 
 use std::alloc::{AllocError, Allocator};
 use std::mem;

@@ -4,11 +4,11 @@ use Rattle.std.specs.Bool.{Decides}
 use Rattle.std.specs.Option.{option_and_then}
 use Rattle.std.proofs.lemmas.Bool.{cases_lt}
 use Rattle.wasm_validator_type_groups.specs.WasmSpec.Syntax.{Sub}
-use Rattle.wasm_validator_type_groups.specs.WasmSpec.Declared.{supertype_of, ancestor_at, IsAncestor, IsDepth}
+use Rattle.wasm_validator_type_groups.specs.WasmSpec.SupertypeOrder.{supertype_of, ancestor_at, IsAncestor, IsDepth}
 use Rattle.wasm_validator_type_groups.proofs.Places.{get-map}
 use Rattle.wasm_validator_type_ancestors.specs.declared.entries.Entry.{Entry}
 use Rattle.wasm_validator_type_ancestors.specs.Supers.{Tells}
-use Rattle.wasm_validator_type_ancestors.specs.Counting.{Counts}
+use Rattle.wasm_validator_type_ancestors.specs.ReadCounts.{Counts}
 use Rattle.wasm_validator_type_ancestors.specs.Entries.{super_in, supers_of, Extends, AreEntries}
 use Rattle.wasm_validator_type_ancestors.proofs.Growth.{super_none, super_more, linked-is}
 use Rattle.wasm_validator_type_ancestors.proofs.Chains.{depth_through, not_above, counts-not_above, listed-decides, counts-listed}

@@ -10,7 +10,7 @@ use Rattle.wasm_validator_type_groups.specs.WasmReadersTypes.WasmReadersValues.d
 use Rattle.wasm_validator_type_groups.specs.WasmReadersTypes.WasmReadersValues.declared.indices.UnpackedIndex.TheVariants.{Module, RecGroup, Id}
 use Rattle.wasm_validator_type_groups.specs.WasmReadersTypes.declared.types.SubType.{SubType}
 use Rattle.wasm_validator_type_groups.specs.WasmReadersTypes.SeenTypes.{sub_of}
-use Rattle.wasm_validator_type_ancestors.specs.Listable.{IsKnown, IsListable, IsListableAt, ReferByIds}
+use Rattle.wasm_validator_type_ancestors.specs.GroupReferences.{IsKnown, IsListable, IsListableAt, ReferByIds}
 use Rattle.wasm_validator_type_ancestors.proofs.Items.{both, left, right}
 
 -- what holds of all that items are seen as

@@ -5,10 +5,10 @@ use Rattle.std.specs.Bool.{Decides}
 use Rattle.std.proofs.lemmas.Bool.{cases_lt}
 use Rattle.std.proofs.lemmas.Option.{none-some, same_Some}
 use Rattle.wasm_validator_type_groups.specs.WasmSpec.Syntax.{Sub}
-use Rattle.wasm_validator_type_groups.specs.WasmSpec.Declared.{supertype_of, ancestor_at, IsAncestor, IsDepth, Links}
+use Rattle.wasm_validator_type_groups.specs.WasmSpec.SupertypeOrder.{supertype_of, ancestor_at, IsAncestor, IsDepth, Links}
 use Rattle.wasm_validator_type_groups.proofs.WasmSpec.Depths.{depths_are_small}
 use Rattle.wasm_validator_type_groups.proofs.WasmSpec.Matching.{ancestor_at-add}
-use Rattle.wasm_validator_type_ancestors.specs.Counting.{Counts}
+use Rattle.wasm_validator_type_ancestors.specs.ReadCounts.{Counts}
 
 -- so many links from a lead here, and none before is b
 pub record IsWalk (D : ℕ → Option (Sub ℕ)) (a b links here : ℕ) : Type 0 where

@@ -5,7 +5,7 @@ pub mod ByIds
 pub mod Results
 pub mod Store
 pub mod Growth
-pub mod OneMore
+pub mod AncestorExtensions
 pub mod Chains
 pub mod Ancestors
 pub mod NotedDepths

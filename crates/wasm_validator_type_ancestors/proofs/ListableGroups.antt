@@ -19,7 +19,7 @@ use Rattle.wasm_validator_type_groups.specs.WasmReadersTypes.declared.types.Comp
 use Rattle.wasm_validator_type_groups.specs.WasmReadersTypes.declared.types.CompositeInnerType.TheVariants.{Func, Struct}
 use Rattle.wasm_validator_type_groups.specs.WasmReadersTypes.declared.types.SubType.{SubType}
 use Rattle.wasm_validator_type_groups.specs.WasmReadersTypes.SeenTypes.{comp_of, sub_of}
-use Rattle.wasm_validator_type_ancestors.specs.Listable.{IsKnown, IsListable, IsListableAt}
+use Rattle.wasm_validator_type_ancestors.specs.GroupReferences.{IsKnown, IsListable, IsListableAt}
 use Rattle.wasm_validator_type_ancestors.proofs.Items.{FirstHold, none_first, one_more, both, left, right, flat_decides}
 
 known_further : (types place positions : ℕ) → place ≤ positions → (r : UnpackedIndex) → IsKnown types place r → IsKnown types positions r

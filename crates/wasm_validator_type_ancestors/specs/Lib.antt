@@ -1,8 +1,8 @@
 pub use Rattle.wasm_validator_type_groups.specs as WasmValidatorTypeGroups
 pub mod Supers
-pub mod Listable
-pub mod Counting
+pub mod GroupReferences
+pub mod ReadCounts
 pub mod Entries
-pub mod Inside
+pub mod AncestorEntries
 pub mod Depths
 pub mod NotedDepths

@@ -2,7 +2,7 @@
 use Rattle.std.specs.Prelude.{ℕ, ◌≡◌, ◌+◌, ◌<◌, List, map, slice_get, Option}
 use Rattle.std.specs.Option.{option_map, option_and_then, IfSome}
 use Rattle.wasm_validator_type_groups.specs.WasmSpec.Syntax.{Sub}
-use Rattle.wasm_validator_type_groups.specs.WasmSpec.Declared.{supertype_of}
+use Rattle.wasm_validator_type_groups.specs.WasmSpec.SupertypeOrder.{supertype_of}
 use Rattle.wasm_validator_type_groups.specs.WasmReadersTypes.WasmReadersValues.SeenValues.{index_of}
 use Rattle.wasm_validator_type_groups.specs.WasmReadersTypes.WasmReadersValues.declared.indices.UnpackedIndex.{UnpackedIndex}
 use Rattle.wasm_validator_type_groups.specs.WasmReadersTypes.WasmReadersValues.declared.indices.UnpackedIndex.TheVariants.{Module, RecGroup, Id}

@@ -11,11 +11,11 @@
 ghost use Rattle.std.specs.Prelude.{◌≡◌, ◌+◌, ◌<◌, ◌≤◌, ◌^◌, ◌++◌, ◌∷◌, [], ℕ, Option, length, IfOk, OnOk, OnErr};
 ghost use Rattle.std.specs.Bool.{Decides};
 ghost use Rattle.wasm_validator_type_groups.specs.WasmSpec.Syntax.{Sub};
-ghost use Rattle.wasm_validator_type_groups.specs.WasmSpec.Declared.{IsAncestor, IsDepth};
+ghost use Rattle.wasm_validator_type_groups.specs.WasmSpec.SupertypeOrder.{IsAncestor, IsDepth};
 ghost use Rattle.wasm_validator_type_groups.specs.Groups.{all_in};
-ghost use Rattle.wasm_validator_type_groups.specs.Known.{group_hash};
+ghost use Rattle.wasm_validator_type_groups.specs.GroupHashes.{group_hash};
 ghost use Rattle.wasm_validator_type_ancestors.specs.Supers.{extended_in, ExtendEarlier, Tells};
-ghost use Rattle.wasm_validator_type_ancestors.specs.Counting.{Counts};
+ghost use Rattle.wasm_validator_type_ancestors.specs.ReadCounts.{Counts};
 
 use crate::entries::{Entry, entries_of, is_below};
 use crate::link_count::LinkCount;
@@ -49,7 +49,7 @@ impl<A: Allocator> Model for AncestorLists<A> {
 
     ghost Value = { List (Option ℕ) };
 
-    ghost use Rattle.wasm_validator_type_ancestors.specs.Inside.{supers_in, AreEntriesIn};
+    ghost use Rattle.wasm_validator_type_ancestors.specs.AncestorEntries.{supers_in, AreEntriesIn};
 
     ghost view = { supers_in };
 

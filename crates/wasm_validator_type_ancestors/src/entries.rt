@@ -6,9 +6,9 @@ ghost use Rattle.std.specs.Prelude.{◌≡◌, ◌+◌, ◌<◌, ◌≤◌, ◌^
 ghost use Rattle.std.specs.Bool.{Decides};
 ghost use Rattle.std.specs.declared.option.Option.TheVariants.{Some};
 ghost use Rattle.wasm_validator_type_groups.specs.WasmSpec.Syntax.{Sub};
-ghost use Rattle.wasm_validator_type_groups.specs.WasmSpec.Declared.{IsAncestor, IsDepth};
+ghost use Rattle.wasm_validator_type_groups.specs.WasmSpec.SupertypeOrder.{IsAncestor, IsDepth};
 ghost use Rattle.wasm_validator_type_ancestors.specs.Supers.{leads_to, extended, extended_in, ExtendEarlier, Tells};
-ghost use Rattle.wasm_validator_type_ancestors.specs.Counting.{Counts};
+ghost use Rattle.wasm_validator_type_ancestors.specs.ReadCounts.{Counts};
 ghost use Rattle.wasm_validator_type_ancestors.specs.Entries.{supers_of, IsOneMore, AreEntries, IsNext, IsKept, AreCopied};
 
 use crate::link_count::LinkCount;

@@ -8,7 +8,7 @@ ghost use Rattle.wasm_validator_type_groups.specs.WasmSpec.References.{refs_heap
 ghost use Rattle.wasm_validator_type_groups.specs.WasmReadersTypes.declared.types.SubType.{SubType};
 ghost use Rattle.wasm_validator_type_groups.specs.WasmReadersTypes.WasmReadersValues.SeenValues.{index_of, heap_of, val_of, field_of};
 ghost use Rattle.wasm_validator_type_groups.specs.WasmReadersTypes.SeenTypes.{comp_of};
-ghost use Rattle.wasm_validator_type_ancestors.specs.Listable.{IsKnown, IsListable, IsListableAt, ReferByIds};
+ghost use Rattle.wasm_validator_type_ancestors.specs.GroupReferences.{IsKnown, IsListable, IsListableAt, ReferByIds};
 
 use std::alloc::Allocator;
 use wasm_validator_type_groups::readers_types::{

@@ -9,26 +9,26 @@ use Rattle.wasm_spec.specs.Trees.{declared, members}
 use Rattle.wasm_spec.specs.Closing.{start_unless}
 use Rattle.wasm_spec.specs.TypeLists.{resolve_listed}
 use Rattle.wasm_spec.specs.GroupRules.{IsValidType}
-use Rattle.wasm_spec.proofs.Numbering.{members-close}
-use Rattle.wasm_spec.proofs.Shifting.{refs_sub-map}
+use Rattle.wasm_spec.proofs.ReferenceNumbers.{members-close}
+use Rattle.wasm_spec.proofs.ClosedGroups.{refs_sub-map}
 use Rattle.wasm_readers_types.specs.SeenTypes.{sub_of}
 use Rattle.wasm_readers_types.specs.WasmReadersValues.declared.indices.UnpackedIndex.{UnpackedIndex}
 use Rattle.wasm_readers_types.specs.WasmReadersValues.declared.indices.UnpackedIndex.TheVariants.{Module, RecGroup, Id}
 use Rattle.wasm_readers_types.specs.declared.types.SubType.{SubType}
 use Rattle.wasm_validator_type_list.specs.WasmValidatorTypeGroups.Groups.{first_of}
-use Rattle.wasm_validator_type_list.specs.Listable.{IsKnown, AreListable}
+use Rattle.wasm_validator_type_list.specs.GroupOrder.{IsKnown, AreListable}
 use Rattle.wasm_validator_type_list.specs.Lookups.{leads_to}
 use Rattle.wasm_validator_type_list.specs.DefTypes.{def_types, listed_sub, listed_group, tree_behind}
-use Rattle.wasm_validator_type_list.specs.Declares.{sub_by_ids, declares}
+use Rattle.wasm_validator_type_list.specs.DeclarationsById.{sub_by_ids, declares}
 use Rattle.wasm_validator_type_list.specs.Laws.{type_of_id}
-use Rattle.wasm_validator_type_list.proofs.Declares.{declared_by}
+use Rattle.wasm_validator_type_list.proofs.IdDeclarations.{declared_by}
 use Rattle.wasm_validator_type_list.proofs.Lookups.{first_of-next}
 use Rattle.wasm_validator_type_list.proofs.DefTypes.{first_of-within, length-def_types}
-use Rattle.wasm_validator_type_list.proofs.Joined.{types_declare_what_ids_declare}
+use Rattle.wasm_validator_type_list.proofs.IdsAndTypes.{types_declare_what_ids_declare}
 use Rattle.wasm_validator_type_list.proofs.Order.{ids_are_ordered_as_types, ids_match_as_types}
 use Rattle.wasm_validator_type_checks.specs.Laws.{IdsKeepRulesAsTypes, GroupsKeepRulesAsTypes, SubTypesMatchAsTypes}
-use Rattle.wasm_validator_type_checks.proofs.Renamed.{sub_match}
-use Rattle.wasm_validator_type_checks.proofs.Transported.{valid_match}
+use Rattle.wasm_validator_type_checks.proofs.RuleRenamings.{sub_match}
+use Rattle.wasm_validator_type_checks.proofs.RuleTransport.{valid_match}
 
 led_below : (start count end : ℕ) (r : UnpackedIndex) → start + count ≤ end → IsKnown start count r → leads_to start r < end
 led_below start count end (Module i) h k = absurd k

@@ -5,16 +5,16 @@ use Rattle.std.specs.Option.{option_and_then}
 use Rattle.std.proofs.lemmas.Option.{same_Some}
 use Rattle.wasm_spec.specs.Syntax.{Sub, map_sub}
 use Rattle.wasm_spec.specs.Features.{Features}
-use Rattle.wasm_spec.specs.Declared.{supertype, supertype_of, descriptor_of, described_by, ancestor_at}
+use Rattle.wasm_spec.specs.SupertypeOrder.{supertype, supertype_of, descriptor_of, described_by, ancestor_at}
 use Rattle.wasm_spec.specs.ValueTypes.{implies, allows_storage}
 use Rattle.wasm_spec.specs.CrateLimits.{is_limited}
 use Rattle.wasm_spec.specs.Matching.{MatchesSub, is_shared_storage}
 use Rattle.wasm_spec.specs.GroupRules.{storages, has_many_results, is_array, is_struct, is_cont, IsContinuationOfFunction, OfSupertype, TypeRules, DescriptorRules}
-use Rattle.wasm_validator_type_list.specs.Grouped.{MatchesDeclared}
-use Rattle.wasm_validator_resources.specs.Allowed.{allows_form, proposals_allow, allows_comp}
+use Rattle.wasm_validator_type_list.specs.GroupTypes.{MatchesDeclared}
+use Rattle.wasm_validator_resources.specs.AllowedComposites.{allows_form, proposals_allow, allows_comp}
 use Rattle.wasm_validator_type_checks.specs.Rules.{Declares, CompositeRules, allows_extending, allows_clauses, HasSameFinality, HasDescriptorLike, DescribesLike, DescriptorDescribes, DescribedHasDescriptor, DescriptorHasSameFinality, IsShallow, MayExtend, ExtendsClauses}
-use Rattle.wasm_validator_type_checks.proofs.Allowed.{struct_map}
-use Rattle.wasm_validator_type_checks.proofs.Decided.{implied, implies_from, both, both_from, is_some_map, nothing_there}
+use Rattle.wasm_validator_type_checks.proofs.AllowedComposites.{struct_map}
+use Rattle.wasm_validator_type_checks.proofs.RuleTests.{implied, implies_from, both, both_from, is_some_map, nothing_there}
 
 -- what is there, with what it is
 found : {X : Type 0} (P : X → Type 0) (o : Option X) → ((x : X) → o ≡ Some x → P x) → IfSome o P

@@ -11,9 +11,9 @@ use Rattle.wasm_spec.specs.Trees.{DefType, declared}
 use Rattle.wasm_spec.specs.GroupRules.{IsValidType, IsValidGroup}
 use Rattle.wasm_spec.specs.TypeLaws.{HasNoRepetition}
 use Rattle.wasm_readers_types.specs.declared.types.SubType.{SubType}
-use Rattle.wasm_validator_type_list.specs.Listable.{AreListable}
+use Rattle.wasm_validator_type_list.specs.GroupOrder.{AreListable}
 use Rattle.wasm_validator_type_list.specs.DefTypes.{def_types, tree_behind, StandFor}
-use Rattle.wasm_validator_type_list.specs.Declares.{declares}
+use Rattle.wasm_validator_type_list.specs.DeclarationsById.{declares}
 use Rattle.wasm_validator_type_list.specs.WasmValidatorTypeGroups.Groups.{first_of}
 use Rattle.wasm_validator_type_checks.specs.Rules.{IsValidGroupAt}
 

@@ -1,4 +1,4 @@
-pub mod Listed
+pub mod TypesById
 pub mod Rules
 pub mod Laws
-pub mod Told
+pub mod TypeRefusals

@@ -11,11 +11,11 @@ ghost use Rattle.wasm_validator_resources.specs.WasmReadersErrors.Refusals.{refu
 ghost use Rattle.wasm_validator_resources.specs.WasmSpecRules.FeatureFlags.{features_of};
 ghost use Rattle.wasm_readers_types.specs.WasmReadersValues.SeenValues.{heap_of, val_of, storage_of, field_of};
 ghost use Rattle.wasm_readers_types.specs.SeenTypes.{comp_of};
-ghost use Rattle.wasm_validator_type_list.specs.Listing.{types_in};
-ghost use Rattle.wasm_validator_type_list.specs.Declares.{declares};
-ghost use Rattle.wasm_validator_type_list.specs.Grouped.{heap_in, val_in, storage_in, comp_in, AreIn};
+ghost use Rattle.wasm_validator_type_list.specs.ListViews.{types_in};
+ghost use Rattle.wasm_validator_type_list.specs.DeclarationsById.{declares};
+ghost use Rattle.wasm_validator_type_list.specs.GroupTypes.{heap_in, val_in, storage_in, comp_in, AreIn};
 ghost use Rattle.wasm_validator_type_checks.specs.Rules.{KeepsCompositeRules, are_members_shareable};
-ghost use Rattle.wasm_validator_type_checks.specs.Told.{told_of_shared, told_of_members, ToldOfContinuation, ToldOfComposite};
+ghost use Rattle.wasm_validator_type_checks.specs.TypeRefusals.{told_of_shared, told_of_members, ToldOfContinuation, ToldOfComposite};
 
 use crate::ids::group_of;
 use std::alloc::Allocator;

@@ -2,15 +2,15 @@
 
 ghost use Rattle.std.specs.Prelude.{◌≡◌, ◌<◌, length, is_ok, IfErr, IfSome};
 ghost use Rattle.std.specs.Bool.{Decides};
-ghost use Rattle.wasm_spec.specs.Declared.{supertype_of};
+ghost use Rattle.wasm_spec.specs.SupertypeOrder.{supertype_of};
 ghost use Rattle.wasm_spec.specs.GroupRules.{is_struct};
 ghost use Rattle.wasm_validator_resources.specs.WasmReadersErrors.Refusals.{plain, refused};
 ghost use Rattle.wasm_validator_resources.specs.WasmSpecRules.FeatureFlags.{features_of};
 ghost use Rattle.wasm_readers_types.specs.SeenTypes.{comp_of, sub_of};
-ghost use Rattle.wasm_validator_type_list.specs.Listing.{types_in};
-ghost use Rattle.wasm_validator_type_list.specs.Declares.{declares};
+ghost use Rattle.wasm_validator_type_list.specs.ListViews.{types_in};
+ghost use Rattle.wasm_validator_type_list.specs.DeclarationsById.{declares};
 ghost use Rattle.wasm_validator_type_checks.specs.Rules.{KeepsDescriptorRules, allows_clauses, ExtendsSupertypeClauses, HasSameFinality, HasDescriptorLike, DescribesLike, ExtendsDescriptor, ExtendsDescribed, ExtendsClauses, DescriptorDescribes, DescribedHasDescriptor, DescriptorHasSameFinality};
-ghost use Rattle.wasm_validator_type_checks.specs.Told.{told_of_clauses, unlike_descriptor, unlike_describes, ToldOfExtendedClauses, ToldOfSupertypeClauses, ToldOfDescriptors};
+ghost use Rattle.wasm_validator_type_checks.specs.TypeRefusals.{told_of_clauses, unlike_descriptor, unlike_describes, ToldOfExtendedClauses, ToldOfSupertypeClauses, ToldOfDescriptors};
 
 use crate::ids::{are_same, described_type, descriptor, group_of, supertype};
 use std::alloc::Allocator;

@@ -5,10 +5,10 @@ ghost use Rattle.std.specs.Bool.{Decides};
 ghost use Rattle.wasm_spec.specs.GroupRules.{IsValidType};
 ghost use Rattle.wasm_validator_resources.specs.WasmReadersErrors.Refusals.{refused};
 ghost use Rattle.wasm_validator_resources.specs.WasmSpecRules.FeatureFlags.{features_of};
-ghost use Rattle.wasm_validator_type_list.specs.Listing.{types_in};
-ghost use Rattle.wasm_validator_type_list.specs.Declares.{declares};
+ghost use Rattle.wasm_validator_type_list.specs.ListViews.{types_in};
+ghost use Rattle.wasm_validator_type_list.specs.DeclarationsById.{declares};
 ghost use Rattle.wasm_validator_type_checks.specs.Rules.{IsValidGroupAt};
-ghost use Rattle.wasm_validator_type_checks.specs.Told.{ToldOfType, ToldOfGroup};
+ghost use Rattle.wasm_validator_type_checks.specs.TypeRefusals.{ToldOfType, ToldOfGroup};
 
 use crate::descriptors::check_descriptors;
 use crate::subtypes::check_subtype;

@@ -3,13 +3,13 @@
 ghost use Rattle.std.specs.Prelude.{◌≡◌, ◌<◌, length, slice_index_or, option_map, IfSome};
 ghost use Rattle.std.specs.Bool.{Decides};
 ghost use Rattle.wasm_readers_types.specs.WasmReadersValues.SeenValues.{index_of};
-ghost use Rattle.wasm_spec.specs.Declared.{supertype_of, descriptor_of, described_by};
+ghost use Rattle.wasm_spec.specs.SupertypeOrder.{supertype_of, descriptor_of, described_by};
 ghost use Rattle.wasm_readers_types.specs.declared.types.SubType.{SubType};
-ghost use Rattle.wasm_validator_type_list.specs.Listable.{AreListable};
-ghost use Rattle.wasm_validator_type_list.specs.Listing.{types_in};
-ghost use Rattle.wasm_validator_type_list.specs.Declares.{declares};
-ghost use Rattle.wasm_validator_type_list.specs.Grouped.{leads_in, IsKnownIn};
-ghost use Rattle.wasm_validator_type_checks.specs.Listed.{IsListed, numbered, IsIn, leads_packed};
+ghost use Rattle.wasm_validator_type_list.specs.GroupOrder.{AreListable};
+ghost use Rattle.wasm_validator_type_list.specs.ListViews.{types_in};
+ghost use Rattle.wasm_validator_type_list.specs.DeclarationsById.{declares};
+ghost use Rattle.wasm_validator_type_list.specs.GroupTypes.{leads_in, IsKnownIn};
+ghost use Rattle.wasm_validator_type_checks.specs.TypesById.{IsListed, numbered, IsIn, leads_packed};
 
 use std::alloc::Allocator;
 use wasm_readers_types::{CoreTypeId, PackedIndex};

@@ -2,14 +2,14 @@
 
 ghost use Rattle.std.specs.Prelude.{◌≡◌, ◌<◌, length, is_ok, IfErr, IfSome};
 ghost use Rattle.std.specs.Bool.{Decides};
-ghost use Rattle.wasm_spec.specs.Declared.{supertype_of, IsDepth};
+ghost use Rattle.wasm_spec.specs.SupertypeOrder.{supertype_of, IsDepth};
 ghost use Rattle.wasm_validator_resources.specs.WasmReadersErrors.Refusals.{plain, refused};
 ghost use Rattle.wasm_validator_resources.specs.WasmSpecRules.FeatureFlags.{features_of};
 ghost use Rattle.wasm_readers_types.specs.SeenTypes.{sub_of};
-ghost use Rattle.wasm_validator_type_list.specs.Listing.{types_in};
-ghost use Rattle.wasm_validator_type_list.specs.Declares.{declares};
+ghost use Rattle.wasm_validator_type_list.specs.ListViews.{types_in};
+ghost use Rattle.wasm_validator_type_list.specs.DeclarationsById.{declares};
 ghost use Rattle.wasm_validator_type_checks.specs.Rules.{KeepsTypeRules, IsOpen, IsShallow, MayExtend, allows_extending};
-ghost use Rattle.wasm_validator_type_checks.specs.Told.{told_of_extending, ToldOfExtended, ToldOfSupertype, ToldOfSubtype};
+ghost use Rattle.wasm_validator_type_checks.specs.TypeRefusals.{told_of_extending, ToldOfExtended, ToldOfSupertype, ToldOfSubtype};
 
 use crate::composite_types::check_composite_type;
 use crate::ids::{group_of, supertype};

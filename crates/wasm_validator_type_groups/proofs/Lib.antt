@@ -1,9 +1,9 @@
 pub use Rattle.wasm_readers_types.proofs.WasmSpec as WasmSpec
 pub mod Places
-pub mod Flat
-pub mod Counting
-pub mod Ends
-pub mod RunsStand
-pub mod Finding
-pub mod Standing
+pub mod FlatGroups
+pub mod RemainingNumbers
+pub mod PieceEnds
+pub mod PartRuns
+pub mod HashChains
+pub mod MemberPlaces
 pub mod Tables

@@ -4,9 +4,9 @@ use Rattle.std.specs.Hash.{HashWrites}
 use Rattle.std.proofs.lemmas.List.{length_push}
 use Rattle.wasm_validator_type_groups.specs.declared.group_table.GroupTable.TheInside.{Inside}
 use Rattle.wasm_validator_type_groups.specs.declared.known_groups.KnownGroups.{KnownGroups}
-use Rattle.wasm_validator_type_groups.specs.Known.{group_hash, FindSame, FindsOneMore}
+use Rattle.wasm_validator_type_groups.specs.GroupHashes.{group_hash, FindSame, FindsOneMore}
 use Rattle.wasm_validator_type_groups.specs.Tables.{groups_in, IsTable}
-use Rattle.wasm_validator_type_groups.proofs.Finding.{known-same, known-push}
+use Rattle.wasm_validator_type_groups.proofs.HashChains.{known-same, known-push}
 
 pub table-push : {T A : Type 0} (F : T → HashWrites) (a b : Inside T A) (gs : List (List T)) (k : KnownGroups A) (g : List T) (hash number : ℕ) → IsTable F a → groups_in a ≡ gs → length gs < 2 ^ 32
     → FindSame a.known k → FindsOneMore k b.known hash number → hash ≡ group_hash F g → number ≡ length a.groups → b.groups ≡ a.groups ++ g ∷ [] → b.is_indexed ≡ a.is_indexed → IsTable F b

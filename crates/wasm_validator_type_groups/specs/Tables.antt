@@ -2,7 +2,7 @@
 use Rattle.std.specs.Prelude.{◌≡◌, ◌≤◌, ◌^◌, true, List, length}
 use Rattle.std.specs.Hash.{HashWrites}
 use Rattle.wasm_validator_type_groups.specs.declared.group_table.GroupTable.TheInside.{Inside}
-use Rattle.wasm_validator_type_groups.specs.Known.{AreKnown}
+use Rattle.wasm_validator_type_groups.specs.GroupHashes.{AreKnown}
 
 module _ {T A : Type 0} where
   abbrev pub groups_in : Inside T A → List (List T)

@@ -38,7 +38,7 @@ impl Iterator for RecGroupElements {
 
     ghost remaining = { item_count ids_left };
 
-    #[tactic(auto, using(crate::proofs::Counting::none_left, crate::proofs::Counting::one_left))]
+    #[tactic(auto, using(crate::proofs::RemainingNumbers::none_left, crate::proofs::RemainingNumbers::one_left))]
     fn next(&mut self) -> Option<CoreTypeId> {
         if self.next >= self.end {
             return None;
@@ -50,7 +50,7 @@ impl Iterator for RecGroupElements {
 }
 
 impl ExactSizeIterator for RecGroupElements {
-    #[tactic(auto, using(crate::proofs::Counting::length_numbers))]
+    #[tactic(auto, using(crate::proofs::RemainingNumbers::length_numbers))]
     fn len(&self) -> usize {
         self.end.saturating_sub(self.next) as usize
     }

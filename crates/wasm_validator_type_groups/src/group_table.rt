@@ -5,7 +5,7 @@ ghost use Rattle.std.specs.Prelude.{◌≡◌, ◌+◌, ◌<◌, ◌≤◌, ◌^
 ghost use Rattle.wasm_validator_type_groups.specs.Groups.{all_in, first_of, IsInGroup};
 ghost use Rattle.wasm_validator_type_groups.specs.Spans.{span, spans_of};
 ghost use Rattle.wasm_validator_type_groups.specs.Places.{IsPlaceOf};
-ghost use Rattle.wasm_validator_type_groups.specs.Known.{group_hash};
+ghost use Rattle.wasm_validator_type_groups.specs.GroupHashes.{group_hash};
 
 use crate::known_groups::{KnownGroups, is_group};
 use crate::{GroupedList, SnapshotList};

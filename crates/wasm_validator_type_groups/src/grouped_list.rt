@@ -37,7 +37,7 @@ impl<T, A: Allocator> Model for GroupedList<T, A> {
 
     ghost Value = { List (List T) };
 
-    ghost use Rattle.wasm_validator_type_groups.specs.Flat.{groups_of, IsParted};
+    ghost use Rattle.wasm_validator_type_groups.specs.FlatLists.{groups_of, IsParted};
 
     ghost view = { groups_of };
 

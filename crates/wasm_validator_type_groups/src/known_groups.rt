@@ -7,7 +7,7 @@ ghost use Rattle.std.specs.Bool.{Decides};
 ghost use Rattle.std.specs.declared.option.Option.TheVariants.{Some};
 ghost use Rattle.wasm_validator_type_groups.specs.Groups.{all_in};
 ghost use Rattle.wasm_validator_type_groups.specs.Places.{IsPlaceOf};
-ghost use Rattle.wasm_validator_type_groups.specs.Known.{group_hash, AreKnown, FindSame, HasRoom, FindsOneMore};
+ghost use Rattle.wasm_validator_type_groups.specs.GroupHashes.{group_hash, AreKnown, FindSame, HasRoom, FindsOneMore};
 
 use crate::GroupedList;
 use std::alloc::{AllocError, Allocator};

@@ -148,7 +148,7 @@ pub(crate) fn closed_item<'a, T, A: Allocator>(
 
 /// Makes a part of the items at the open end, if it has some, and says where the parts end then.
 /// Where memory is refused, all stays as it was.
-#[tactic(auto, using(crate::proofs::Ends::closed_items, crate::proofs::Ends::closed_stand))]
+#[tactic(auto, using(crate::proofs::PieceEnds::closed_items, crate::proofs::PieceEnds::closed_stand))]
 pub(crate) fn close<T: Drop, A: Allocator + Copy>(
     alloc: A,
     parts: &mut Vec<Part<T, A>, A>,

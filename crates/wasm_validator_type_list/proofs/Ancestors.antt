@@ -3,20 +3,20 @@ use Rattle.std.proofs.Common.{◌≡◌, refl, sym, ap, ◌∙◌, ℕ, zero, su
 use Rattle.std.specs.Option.{option_map, option_and_then, IfSome}
 use Rattle.std.proofs.lemmas.List.{length-map}
 use Rattle.std.proofs.lemmas.List.Elements.{All-head}
-use Rattle.wasm_readers_errors.specs.WasmSpec.Declared.{supertype}
+use Rattle.wasm_readers_errors.specs.WasmSpec.SupertypeOrder.{supertype}
 use Rattle.wasm_readers_types.specs.WasmReadersValues.SeenValues.{index_of}
 use Rattle.wasm_readers_types.specs.WasmReadersValues.declared.indices.PackedIndex.{PackedIndex}
 use Rattle.wasm_readers_types.specs.declared.types.SubType.{SubType}
 use Rattle.wasm_validator_type_ancestors.specs.WasmValidatorTypeGroups.Groups.{all_in}
 use Rattle.wasm_validator_type_ancestors.specs.Supers.{leads_to, extended_in, ExtendEarlier, Tells}
 use Rattle.wasm_validator_type_list.specs.declared.type_list.TypeList.TheInside.{Inside}
-use Rattle.wasm_validator_type_list.specs.Listing.{Listing}
-use Rattle.wasm_validator_type_list.specs.Listable.{IsKnown, IsListable}
-use Rattle.wasm_validator_type_list.specs.Declares.{sub_by_ids, subs_by_ids, declares}
-use Rattle.wasm_validator_type_list.specs.Sound.{shown, supers_in, IsSound}
-use Rattle.wasm_validator_type_list.proofs.Declares.{first-mapped, leads_before}
+use Rattle.wasm_validator_type_list.specs.ListViews.{Listing}
+use Rattle.wasm_validator_type_list.specs.GroupOrder.{IsKnown, IsListable}
+use Rattle.wasm_validator_type_list.specs.DeclarationsById.{sub_by_ids, subs_by_ids, declares}
+use Rattle.wasm_validator_type_list.specs.ListSoundness.{shown, supers_in, IsSound}
+use Rattle.wasm_validator_type_list.proofs.IdDeclarations.{first-mapped, leads_before}
 use Rattle.wasm_validator_type_list.proofs.Depths.{subs-push}
-use Rattle.wasm_validator_type_list.proofs.Joined.{length-subs}
+use Rattle.wasm_validator_type_list.proofs.IdsAndTypes.{length-subs}
 
 -- what is found in a list of options, and in what a function makes of another list
 through_map : {X Y : Type 0} (f : X → Option Y) (xs : List X) (k : ℕ) → option_and_then f (slice_get xs k) ≡ option_and_then (λ o. o) (slice_get (map f xs) k)

@@ -2,7 +2,7 @@
 use Rattle.std.proofs.Common.{◌≡◌, ℕ, zero, suc, ◌<◌, ◌≤◌, Option, Some, arith}
 use Rattle.std.proofs.lemmas.Option.{same_Some, option_and_then_some}
 use Rattle.wasm_readers_errors.specs.WasmSpec.Syntax.{Sub}
-use Rattle.wasm_readers_errors.specs.WasmSpec.Declared.{supertype_of, ancestor_at}
+use Rattle.wasm_readers_errors.specs.WasmSpec.SupertypeOrder.{supertype_of, ancestor_at}
 
 module _ (D : ℕ → Option (Sub ℕ)) where
   -- each supertype comes before

@@ -11,15 +11,15 @@ use Rattle.wasm_readers_errors.specs.WasmSpec.Trees.{RecTree, DefType, close}
 use Rattle.wasm_readers_errors.specs.WasmSpec.Closing.{positions}
 use Rattle.wasm_readers_errors.specs.WasmSpec.TypeLists.{ListedUse, by_id, by_position, use_of_id, resolve_listed, listed_tree, with_listed, with_all_listed, types_of}
 use Rattle.wasm_readers_errors.specs.WasmSpec.TypeLaws.{IsKnownUse, MentionsKnown}
-use Rattle.wasm_readers_errors.proofs.WasmSpec.Accepted.{length-positions}
+use Rattle.wasm_readers_errors.proofs.WasmSpec.AcceptedSections.{length-positions}
 use Rattle.wasm_readers_errors.proofs.WasmSpec.Agreement.{agree_sub}
-use Rattle.wasm_readers_errors.proofs.WasmSpec.Listed.{appended_listed_group}
+use Rattle.wasm_readers_errors.proofs.WasmSpec.ListedGroups.{appended_listed_group}
 use Rattle.wasm_readers_types.specs.declared.types.SubType.{SubType}
 use Rattle.wasm_validator_type_ancestors.specs.WasmValidatorTypeGroups.Groups.{all_in, first_of}
-use Rattle.wasm_validator_type_list.specs.Listable.{IsListable, AreListable}
+use Rattle.wasm_validator_type_list.specs.GroupOrder.{IsListable, AreListable}
 use Rattle.wasm_validator_type_list.specs.DefTypes.{listed_sub, listed_group, def_types, tree_behind}
 use Rattle.wasm_validator_type_ancestors.proofs.WasmValidatorTypeGroups.Places.{get-left, get-append, first_of-suc}
-use Rattle.wasm_validator_type_list.proofs.Listed.{mentions_known}
+use Rattle.wasm_validator_type_list.proofs.ListedSubTypes.{mentions_known}
 
 -- places in a recursive type
 abbrev pub place_in : RecTree → ℕ → DefType

@@ -8,19 +8,19 @@ use Rattle.std.proofs.lemmas.Option.{same_Some}
 use Rattle.std.proofs.lemmas.Bool.Decides.{Decides-eqb}
 use Rattle.std.proofs.lemmas.List.{append_assoc}
 use Rattle.wasm_readers_errors.specs.WasmSpec.Syntax.{Sub}
-use Rattle.wasm_readers_errors.specs.WasmSpec.Declared.{supertype, supertype_of, ancestor_at, IsDepth}
+use Rattle.wasm_readers_errors.specs.WasmSpec.SupertypeOrder.{supertype, supertype_of, ancestor_at, IsDepth}
 use Rattle.wasm_readers_types.specs.WasmReadersValues.declared.indices.CoreTypeId.{CoreTypeId}
 use Rattle.wasm_readers_types.specs.declared.types.SubType.{SubType}
 use Rattle.wasm_validator_type_ancestors.specs.WasmValidatorTypeGroups.Groups.{all_in}
-use Rattle.wasm_validator_type_list.specs.Listable.{AreListable}
+use Rattle.wasm_validator_type_list.specs.GroupOrder.{AreListable}
 use Rattle.wasm_validator_type_list.specs.Lookups.{IsSupertypeAt}
-use Rattle.wasm_validator_type_list.specs.Declares.{sub_by_ids, subs_by_ids, declares}
+use Rattle.wasm_validator_type_list.specs.DeclarationsById.{sub_by_ids, subs_by_ids, declares}
 use Rattle.wasm_validator_type_list.specs.Depths.{depth_of, with_depth, HasDepth, AreDepths}
-use Rattle.wasm_validator_type_ancestors.proofs.WasmValidatorTypeGroups.Flat.{all_in-push}
+use Rattle.wasm_validator_type_ancestors.proofs.WasmValidatorTypeGroups.FlatGroups.{all_in-push}
 use Rattle.wasm_validator_type_ancestors.proofs.WasmValidatorTypeGroups.Places.{get-left}
-use Rattle.wasm_validator_type_list.proofs.Declares.{supertype_read, descends}
+use Rattle.wasm_validator_type_list.proofs.IdDeclarations.{supertype_read, descends}
 use Rattle.wasm_validator_type_list.proofs.Chains.{not_behind}
-use Rattle.wasm_validator_type_list.proofs.Joined.{length-subs}
+use Rattle.wasm_validator_type_list.proofs.IdsAndTypes.{length-subs}
 
 -- what is found through an option, where each way finds the same
 through_same : {X : Type 0} (f g : ℕ → Option X) (o : Option ℕ) → ((y : ℕ) → o ≡ Some y → f y ≡ g y) → option_and_then f o ≡ option_and_then g o

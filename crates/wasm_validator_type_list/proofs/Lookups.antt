@@ -9,7 +9,7 @@ use Rattle.wasm_readers_types.specs.WasmReadersValues.declared.indices.UnpackedI
 use Rattle.wasm_readers_types.specs.WasmReadersValues.declared.indices.UnpackedIndex.TheVariants.{Module, RecGroup, Id}
 use Rattle.wasm_readers_types.specs.declared.types.SubType.{SubType}
 use Rattle.wasm_validator_type_ancestors.specs.WasmValidatorTypeGroups.Groups.{all_in, first_of, IsInGroup}
-use Rattle.wasm_validator_type_list.specs.Listable.{IsKnown, AreListable}
+use Rattle.wasm_validator_type_list.specs.GroupOrder.{IsKnown, AreListable}
 use Rattle.wasm_validator_type_ancestors.proofs.WasmValidatorTypeGroups.Places.{get-left, get-right, split-at, first_of-suc}
 
 -- what a known reference is not

@@ -6,18 +6,18 @@ use Rattle.std.proofs.lemmas.Option.{none-some, same_Some, slice_get-get_or}
 use Rattle.wasm_readers_errors.specs.WasmSpec.Syntax.{AbstractHeap, Heap, abstract_heap, concrete, exact, Val, i32, i64, f32, f64, v128, reference, Sub, map_heap, map_val, map_sub}
 use Rattle.wasm_readers_errors.specs.WasmSpec.References.{refs_heap, refs_val}
 use Rattle.wasm_readers_errors.specs.WasmSpec.Trees.{DefType, declared}
-use Rattle.wasm_readers_errors.specs.WasmSpec.Declared.{supertype, supertype_of, ancestor_at, IsAncestor}
+use Rattle.wasm_readers_errors.specs.WasmSpec.SupertypeOrder.{supertype, supertype_of, ancestor_at, IsAncestor}
 use Rattle.wasm_readers_errors.specs.WasmSpec.Matching.{kind_of, bottom_of, MatchesAbstract, MatchesKind, IsAboveBottom, MatchesHeap, MatchesVal}
 use Rattle.wasm_readers_errors.specs.WasmSpec.TypeLaws.{HasNoRepetition}
 use Rattle.wasm_readers_types.specs.declared.types.SubType.{SubType}
-use Rattle.wasm_validator_type_list.specs.Listable.{AreListable}
+use Rattle.wasm_validator_type_list.specs.GroupOrder.{AreListable}
 use Rattle.wasm_validator_type_list.specs.DefTypes.{def_types}
-use Rattle.wasm_validator_type_list.specs.Declares.{declares}
+use Rattle.wasm_validator_type_list.specs.DeclarationsById.{declares}
 use Rattle.wasm_validator_type_list.specs.Laws.{IdsAreOrderedAsTypes, IdsMatchAsTypes}
-use Rattle.wasm_validator_type_list.proofs.Declares.{descends}
+use Rattle.wasm_validator_type_list.proofs.IdDeclarations.{descends}
 use Rattle.wasm_validator_type_list.proofs.Chains.{not_behind}
-use Rattle.wasm_validator_type_list.proofs.Matches.{kind_kept, bottom_kept}
-use Rattle.wasm_validator_type_list.proofs.Joined.{types_declare_what_ids_declare}
+use Rattle.wasm_validator_type_list.proofs.TypeMatches.{kind_kept, bottom_kept}
+use Rattle.wasm_validator_type_list.proofs.IdsAndTypes.{types_declare_what_ids_declare}
 
 -- the first supertype, renamed
 first_renamed : {R S : Type 0} (f : R → S) (rs : List R) → slice_get (map f rs) 0 ≡ option_map f (slice_get rs 0)

@@ -5,10 +5,10 @@ use Rattle.std.specs.Option.{option_and_then}
 use Rattle.std.proofs.lemmas.Bool.Decides.{Decides-eqb, Decides-or, Decides-like}
 use Rattle.std.proofs.lemmas.Option.{none-some, same_Some, option_and_then_some}
 use Rattle.wasm_readers_errors.specs.WasmSpec.Syntax.{Sub}
-use Rattle.wasm_readers_errors.specs.WasmSpec.Declared.{supertype_of, ancestor_at, IsAncestor}
+use Rattle.wasm_readers_errors.specs.WasmSpec.SupertypeOrder.{supertype_of, ancestor_at, IsAncestor}
 use Rattle.wasm_validator_type_list.specs.Worlds.{is_within, IdsAreAWorld}
-use Rattle.wasm_validator_type_list.specs.Declares.{declares}
-use Rattle.wasm_validator_type_list.proofs.Declares.{descends}
+use Rattle.wasm_validator_type_list.specs.DeclarationsById.{declares}
+use Rattle.wasm_validator_type_list.proofs.IdDeclarations.{descends}
 use Rattle.wasm_validator_type_list.proofs.Chains.{Descends}
 
 module _ (D : ℕ → Option (Sub ℕ)) (down : Descends D) where

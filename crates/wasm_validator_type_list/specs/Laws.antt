@@ -5,13 +5,13 @@ use Rattle.std.specs.declared.option.Option.TheVariants.{Some}
 use Rattle.wasm_readers_errors.specs.WasmSpec.Syntax.{Val, map_val, map_sub}
 use Rattle.wasm_readers_errors.specs.WasmSpec.References.{refs_val}
 use Rattle.wasm_readers_errors.specs.WasmSpec.Trees.{DefType, declared}
-use Rattle.wasm_readers_errors.specs.WasmSpec.Declared.{IsAncestor}
+use Rattle.wasm_readers_errors.specs.WasmSpec.SupertypeOrder.{IsAncestor}
 use Rattle.wasm_readers_errors.specs.WasmSpec.Matching.{MatchesVal}
 use Rattle.wasm_readers_errors.specs.WasmSpec.TypeLaws.{HasNoRepetition}
 use Rattle.wasm_readers_types.specs.declared.types.SubType.{SubType}
-use Rattle.wasm_validator_type_list.specs.Listable.{AreListable}
+use Rattle.wasm_validator_type_list.specs.GroupOrder.{AreListable}
 use Rattle.wasm_validator_type_list.specs.DefTypes.{def_types}
-use Rattle.wasm_validator_type_list.specs.Declares.{declares}
+use Rattle.wasm_validator_type_list.specs.DeclarationsById.{declares}
 
 -- the type that an id stands for; where there is none, the one that is given
 abbrev pub type_of_id : List DefType → DefType → ℕ → DefType

@@ -1,15 +1,15 @@
 pub use Rattle.wasm_validator_type_ancestors.specs.WasmValidatorTypeGroups as WasmValidatorTypeGroups
-pub mod Listing
-pub mod Listable
+pub mod ListViews
+pub mod GroupOrder
 pub mod DefTypes
-pub mod Interned
+pub mod GroupInterning
 pub mod Depths
-pub mod Sound
-pub mod Refused
+pub mod ListSoundness
+pub mod ListRefusals
 pub mod Lookups
-pub mod Declares
-pub mod Reading
+pub mod DeclarationsById
+pub mod AncestorReads
 pub mod Subtyping
-pub mod Grouped
+pub mod GroupTypes
 pub mod Worlds
 pub mod Laws

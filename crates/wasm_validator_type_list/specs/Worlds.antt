@@ -1,11 +1,11 @@
 -- The world of a list of types: what its ids declare, and tests of their order and of their equality.
 use Rattle.std.specs.Prelude.{ℕ, zero, suc, Bool, false, ◌||◌, ◌==◌, List, Option, Some, None}
 use Rattle.wasm_readers_errors.specs.WasmSpec.Syntax.{Sub}
-use Rattle.wasm_readers_errors.specs.WasmSpec.Declared.{supertype_of}
+use Rattle.wasm_readers_errors.specs.WasmSpec.SupertypeOrder.{supertype_of}
 use Rattle.wasm_readers_errors.specs.WasmSpec.MatchingTests.{World, IsWorld}
 use Rattle.wasm_readers_types.specs.declared.types.SubType.{SubType}
-use Rattle.wasm_validator_type_list.specs.Listable.{AreListable}
-use Rattle.wasm_validator_type_list.specs.Declares.{declares}
+use Rattle.wasm_validator_type_list.specs.GroupOrder.{AreListable}
+use Rattle.wasm_validator_type_list.specs.DeclarationsById.{declares}
 
 -- whether b is the first or one of its ancestors at so many steps at most
 abbrev pub is_within : (ℕ → Option (Sub ℕ)) → ℕ → Option ℕ → ℕ → Bool

@@ -17,7 +17,7 @@ pub fn ids_are_a_world<A>()
 {}
 
 /// Where equal types aren't one, each type of a list has its place, so that no type has two ids.
-#[tactic(auto, using(crate::proofs::Placed::types_have_their_places))]
+#[tactic(auto, using(crate::proofs::TypePlaces::types_have_their_places))]
 pub fn types_have_their_places<A>()
     ensures { TypesHaveTheirPlaces A }
 {}

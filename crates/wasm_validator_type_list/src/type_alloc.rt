@@ -18,7 +18,7 @@ pub struct TypeAlloc<A: Allocator = Global> {
 }
 
 impl<A: Allocator + Copy> TypeAlloc<A> {
-    ghost use Rattle.wasm_validator_type_list.specs.Listing.{no_groups};
+    ghost use Rattle.wasm_validator_type_list.specs.ListViews.{no_groups};
 
     /// The list of no groups. It takes no memory until groups are added.
     pub fn new(alloc: A, is_canonical: bool) -> TypeAlloc<A>
@@ -56,7 +56,7 @@ impl<A: Allocator + Copy> Index<CoreTypeId> for TypeAlloc<A> {
     type Output = SubType<A>;
 
     ghost use Rattle.std.specs.Prelude.{◌≡◌, ◌<◌, length, slice_index_or};
-    ghost use Rattle.wasm_validator_type_list.specs.Listing.{types_in};
+    ghost use Rattle.wasm_validator_type_list.specs.ListViews.{types_in};
 
     ghost can_index = { λ types id. id.index < length (types_in types.list) };
 

@@ -25,7 +25,7 @@ ghost use Rattle.wasm_readers_types.specs.WasmReadersValues.declared.indices.The
 ghost use Rattle.wasm_validator_type_ancestors.specs.WasmValidatorTypeGroups.Groups.{first_of, IsInGroup};
 ghost use Rattle.wasm_validator_type_ancestors.specs.WasmValidatorTypeGroups.Spans.{spans_of};
 ghost use Rattle.wasm_validator_type_ancestors.specs.WasmValidatorTypeGroups.Elements.{ids_left, ids_of_group};
-ghost use Rattle.wasm_validator_type_list.specs.Refused.{not_in_group};
+ghost use Rattle.wasm_validator_type_list.specs.ListRefusals.{not_in_group};
 ghost use Rattle.wasm_validator_type_list.specs.Lookups.{leads_to, Leads, group_span};
 
 use std::alloc::{AllocError, Allocator, Global};
@@ -76,11 +76,11 @@ impl<A: Allocator> Drop for TypeList<A> {
 }
 
 impl<A: Allocator> Model for TypeList<A> {
-    ghost use Rattle.wasm_validator_type_list.specs.Listing.{Listing};
+    ghost use Rattle.wasm_validator_type_list.specs.ListViews.{Listing};
 
     ghost Value = { Listing A };
 
-    ghost use Rattle.wasm_validator_type_list.specs.Sound.{shown, IsSound};
+    ghost use Rattle.wasm_validator_type_list.specs.ListSoundness.{shown, IsSound};
 
     ghost view = { shown };
 
@@ -88,10 +88,10 @@ impl<A: Allocator> Model for TypeList<A> {
 }
 
 impl<A: Allocator + Copy> TypeList<A> {
-    ghost use Rattle.wasm_validator_type_list.specs.Listing.{no_groups, types_in, committed};
+    ghost use Rattle.wasm_validator_type_list.specs.ListViews.{no_groups, types_in, committed};
     ghost use Rattle.std.specs.Bool.{Decides};
-    ghost use Rattle.wasm_validator_type_list.specs.Listable.{AreListable, ReferByIds};
-    ghost use Rattle.wasm_validator_type_list.specs.Interned.{AreOnce};
+    ghost use Rattle.wasm_validator_type_list.specs.GroupOrder.{AreListable, ReferByIds};
+    ghost use Rattle.wasm_validator_type_list.specs.GroupInterning.{AreOnce};
     ghost use Rattle.wasm_validator_type_list.specs.DefTypes.{def_types};
     ghost use Rattle.wasm_readers_errors.specs.WasmSpec.TypeLaws.{HasNoRepetition};
     ghost use Rattle.wasm_validator_type_list.specs.Lookups.{IsSupertypeAt};
@@ -366,7 +366,7 @@ impl<A: Allocator + Copy> Index<CoreTypeId> for TypeList<A> {
     type Output = SubType<A>;
 
     ghost use Rattle.std.specs.Prelude.{◌≡◌, ◌<◌, length, slice_index_or};
-    ghost use Rattle.wasm_validator_type_list.specs.Listing.{types_in};
+    ghost use Rattle.wasm_validator_type_list.specs.ListViews.{types_in};
 
     ghost can_index = { λ list id. id.index < length (types_in list) };
 

@@ -1,3 +1,3 @@
 mod Imports
 mod Exports
-mod Typed
+mod FunctionsAndTags

@@ -3,6 +3,6 @@ pub use Rattle.wasm_readers.specs.WasmReadersTypes.Entities as Entities
 pub mod Spaces
 pub mod SpacesSeen
 pub mod Rows
-pub mod Left
-pub mod Named
-pub mod Shown
+pub mod IteratorItems
+pub mod NamedEntities
+pub mod ShownModules

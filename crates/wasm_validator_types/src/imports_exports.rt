@@ -2,7 +2,7 @@
 
 ghost use Rattle.std.specs.Prelude.{◌≡◌, map};
 ghost use Rattle.wasm_validator_types.specs.Rows.{all_imports};
-ghost use Rattle.wasm_validator_types.specs.Left.{imports_left, exports_left};
+ghost use Rattle.wasm_validator_types.specs.IteratorItems.{imports_left, exports_left};
 ghost use Rattle.wasm_validator_types.specs.SpacesSeen.{shown_import, shown_export};
 
 use crate::index_spaces::{ExportMap, ImportMap};
@@ -39,7 +39,7 @@ impl<'a, A: Allocator> Iterator for CoreImports<'a, A> {
 
     ghost use Rattle.std.specs.Iterator.{YieldsFirstBy, item_count};
     ghost use Rattle.wasm_validator_types.specs.Entities.{entity_of};
-    ghost use Rattle.wasm_validator_types.specs.Left.{imports_left};
+    ghost use Rattle.wasm_validator_types.specs.IteratorItems.{imports_left};
 
     ghost next_gives = { YieldsFirstBy (λ item. (item.0.now, item.1.now, entity_of item.2))
         imports_left };
@@ -82,7 +82,7 @@ impl<'a, A: Allocator> Iterator for CoreExports<'a, A> {
 
     ghost use Rattle.std.specs.Iterator.{YieldsFirstBy, item_count};
     ghost use Rattle.wasm_validator_types.specs.Entities.{entity_of};
-    ghost use Rattle.wasm_validator_types.specs.Left.{exports_left};
+    ghost use Rattle.wasm_validator_types.specs.IteratorItems.{exports_left};
 
     ghost next_gives = { YieldsFirstBy (λ item. (item.0.now, entity_of item.1)) exports_left };
 

@@ -9,7 +9,7 @@ ghost use Rattle.wasm_readers.specs.WasmReadersTypes.WasmReadersValues.SeenValue
 ghost use Rattle.wasm_validator_types.specs.Entities.{entity_of, IsAmong};
 ghost use Rattle.wasm_validator_types.specs.Spaces.{no_spaces, importing_global, with_import, is_exported, is_exact};
 ghost use Rattle.indexmap.specs.IndexMap.{index_map_len};
-ghost use Rattle.wasm_validator_types.specs.Left.{imports_left, exports_left};
+ghost use Rattle.wasm_validator_types.specs.IteratorItems.{imports_left, exports_left};
 ghost use Rattle.wasm_validator_types.specs.Rows.{all_imports};
 ghost use Rattle.wasm_validator_types.specs.SpacesSeen.{numbers, PutsAt, AddsToPair};
 

@@ -7,7 +7,7 @@ ghost use Rattle.wasm_spec_rules.specs.WasmSpec.Syntax.{func_extern, table_exter
 ghost use Rattle.wasm_readers.specs.WasmReadersTypes.SeenExterns.{extern_of};
 ghost use Rattle.wasm_readers.specs.Items.{export_of};
 ghost use Rattle.wasm_validator_types.specs.Entities.{entity_of, IsAmong};
-ghost use Rattle.wasm_validator_types.specs.Named.{imported_entity, named_entity, named_function, named_tag};
+ghost use Rattle.wasm_validator_types.specs.NamedEntities.{imported_entity, named_entity, named_function, named_tag};
 
 use crate::index_spaces::IndexSpaces;
 use std::alloc::Allocator;

@@ -13,15 +13,15 @@ ghost use Rattle.wasm_readers.specs.WasmReadersTypes.SeenExterns.{extern_of, tab
 ghost use Rattle.wasm_readers.specs.WasmReadersTypes.WasmReadersValues.SeenValues.{ref_of};
 ghost use Rattle.wasm_validator_type_list.specs.WasmValidatorTypeGroups.Groups.{IsInGroup};
 ghost use Rattle.wasm_validator_type_list.specs.WasmValidatorTypeGroups.Elements.{ids_left, ids_of_group};
-ghost use Rattle.wasm_validator_type_list.specs.Listing.{types_in};
+ghost use Rattle.wasm_validator_type_list.specs.ListViews.{types_in};
 ghost use Rattle.wasm_validator_type_list.specs.Lookups.{IsSupertypeAt, group_span};
 ghost use Rattle.wasm_readers.specs.Items.{export_of};
 ghost use Rattle.wasm_spec_rules.specs.FeatureFlags.{features_of};
 ghost use Rattle.wasm_validator_types.specs.Entities.{entity_of, HasIdBelow};
-ghost use Rattle.wasm_validator_types.specs.Named.{imported_entity, named_entity};
-ghost use Rattle.wasm_validator_types.specs.Left.{imports_left, exports_left};
+ghost use Rattle.wasm_validator_types.specs.NamedEntities.{imported_entity, named_entity};
+ghost use Rattle.wasm_validator_types.specs.IteratorItems.{imports_left, exports_left};
 ghost use Rattle.wasm_validator_types.specs.Rows.{all_imports};
-ghost use Rattle.wasm_validator_types.specs.Shown.{shown_of, shown_by, HoldsIds, HoldsImports, HoldsExports};
+ghost use Rattle.wasm_validator_types.specs.ShownModules.{shown_of, shown_by, HoldsIds, HoldsImports, HoldsExports};
 
 use crate::id::ValidatorId;
 use crate::imports_exports::{CoreExports, CoreImports};
@@ -99,8 +99,8 @@ impl<A: Allocator + Copy> Index<CoreTypeId> for Types<A> {
     type Output = SubType<A>;
 
     ghost use Rattle.std.specs.Prelude.{◌≡◌, ◌<◌, length, slice_index_or};
-    ghost use Rattle.wasm_validator_type_list.specs.Listing.{types_in};
-    ghost use Rattle.wasm_validator_types.specs.Shown.{shown_of};
+    ghost use Rattle.wasm_validator_type_list.specs.ListViews.{types_in};
+    ghost use Rattle.wasm_validator_types.specs.ShownModules.{shown_of};
 
     ghost can_index = { λ types id. id.index < length (types_in (shown_of types).list) };
 
@@ -117,7 +117,7 @@ impl<A: Allocator + Copy> Index<RecGroupId> for Types<A> {
 
     ghost use Rattle.std.specs.Prelude.{◌≡◌, ◌<◌, ◌+◌, length};
     ghost use Rattle.wasm_validator_type_list.specs.Lookups.{group_span};
-    ghost use Rattle.wasm_validator_types.specs.Shown.{shown_of};
+    ghost use Rattle.wasm_validator_types.specs.ShownModules.{shown_of};
 
     ghost can_index = { λ types group. group.index < length (shown_of types).list.groups };
 
@@ -395,8 +395,8 @@ impl<'a, A: Allocator + Copy> Index<CoreTypeId> for TypesRef<'a, A> {
     type Output = SubType<A>;
 
     ghost use Rattle.std.specs.Prelude.{◌≡◌, ◌<◌, length, slice_index_or};
-    ghost use Rattle.wasm_validator_type_list.specs.Listing.{types_in};
-    ghost use Rattle.wasm_validator_types.specs.Shown.{shown_by};
+    ghost use Rattle.wasm_validator_type_list.specs.ListViews.{types_in};
+    ghost use Rattle.wasm_validator_types.specs.ShownModules.{shown_by};
 
     ghost can_index = { λ types id. id.index < length (types_in (shown_by types).list) };
 
@@ -413,7 +413,7 @@ impl<'a, A: Allocator + Copy> Index<RecGroupId> for TypesRef<'a, A> {
 
     ghost use Rattle.std.specs.Prelude.{◌≡◌, ◌<◌, ◌+◌, length};
     ghost use Rattle.wasm_validator_type_list.specs.Lookups.{group_span};
-    ghost use Rattle.wasm_validator_types.specs.Shown.{shown_by};
+    ghost use Rattle.wasm_validator_types.specs.ShownModules.{shown_by};
 
     ghost can_index = { λ types group. group.index < length (shown_by types).list.groups };
 

@@ -2,7 +2,7 @@ use Rattle.std.proofs.Common.{sym, ◌∙◌}
 use Rattle.std.specs.declared.result.Result.TheVariants.{Err}
 use Rattle.wasm_validator_handles.specs.WasmValidator.WasmValidatorCore.declared.error.Error.TheVariants.{OutOfMemory}
 use Rattle.ruthvelka_c.specs.Reports.{flags}
-use Rattle.ruthvelka_c.proofs.Given.{gives, no_text, stays}
+use Rattle.ruthvelka_c.proofs.AnswerExterns.{gives, no_text, stays}
 use Rattle.ruthvelka_c.proofs.Verdicts.{valid, refused, known, place}
 use Rattle.ruthvelka_c.proofs.ruthvelka_proved_validate_with_externs.Goals as goal
 

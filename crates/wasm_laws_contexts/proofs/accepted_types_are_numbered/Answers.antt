@@ -1,4 +1,4 @@
-use Rattle.wasm_laws_contexts.proofs.AcceptedNumbered.{accepted_types_are_numbered}
+use Rattle.wasm_laws_contexts.proofs.AcceptedTypeNumbers.{accepted_types_are_numbered}
 use Rattle.wasm_laws_contexts.proofs.accepted_types_are_numbered.Goals as goal
 
 pub returns : goal.returns

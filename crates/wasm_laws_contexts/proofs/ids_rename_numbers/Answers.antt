@@ -1,4 +1,4 @@
-use Rattle.wasm_laws_contexts.proofs.Numbered.{ids_rename_numbers}
+use Rattle.wasm_laws_contexts.proofs.NumbersAndIds.{ids_rename_numbers}
 use Rattle.wasm_laws_contexts.proofs.ids_rename_numbers.Goals as goal
 
 pub returns : goal.returns

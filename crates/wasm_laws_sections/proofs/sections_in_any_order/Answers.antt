@@ -1,4 +1,4 @@
-use Rattle.wasm_laws_sections.proofs.Anywhere.{types_anywhere, imports_anywhere, functions_anywhere, tables_anywhere, memories_anywhere, tags_anywhere, globals_anywhere, exports_anywhere, starts_anywhere, elements_anywhere, data_counts_anywhere, code_starts_anywhere, bodies_anywhere, segments_anywhere, segments_after_code}
+use Rattle.wasm_laws_sections.proofs.SectionMethods.{types_anywhere, imports_anywhere, functions_anywhere, tables_anywhere, memories_anywhere, tags_anywhere, globals_anywhere, exports_anywhere, starts_anywhere, elements_anywhere, data_counts_anywhere, code_starts_anywhere, bodies_anywhere, segments_anywhere, segments_after_code}
 use Rattle.wasm_laws_sections.proofs.sections_in_any_order.Goals as goal
 
 pub returns-clause-types : goal.returns-clause-types

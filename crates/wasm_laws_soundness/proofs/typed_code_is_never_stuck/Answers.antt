@@ -1,5 +1,5 @@
 -- The law is the lemma.
-use Rattle.wasm_laws_soundness.proofs.Main.{never_stuck}
+use Rattle.wasm_laws_soundness.proofs.SoundnessTheorem.{never_stuck}
 use Rattle.wasm_laws_soundness.proofs.typed_code_is_never_stuck.Goals as goal
 
 pub returns : goal.returns

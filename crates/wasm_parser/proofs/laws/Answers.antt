@@ -1,7 +1,7 @@
 use Rattle.wasm_parser.specs.Machine.{start}
 use Rattle.wasm_parser.proofs.Law.{run_framed, framed_run}
-use Rattle.wasm_parser.proofs.Onward.{front, grows, ends, stuck, one_run}
-use Rattle.wasm_parser.proofs.Falls.{falls}
+use Rattle.wasm_parser.proofs.RunFronts.{front, grows, ends, stuck, one_run}
+use Rattle.wasm_parser.proofs.PieceCounts.{falls}
 use Rattle.wasm_parser.proofs.laws.Goals as goal
 
 pub returns-clause-framed : goal.returns-clause-framed

@@ -1,4 +1,4 @@
-use Rattle.wasm_spec_validity.proofs.Whole.{expressions_are_whole}
+use Rattle.wasm_spec_validity.proofs.WholeExpressions.{expressions_are_whole}
 use Rattle.wasm_spec_validity.proofs.expressions_are_whole.Goals as goal
 
 pub returns : goal.returns

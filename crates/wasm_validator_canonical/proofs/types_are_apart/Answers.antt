@@ -1,5 +1,5 @@
 use Rattle.std.proofs.Common.{◌∙◌}
-use Rattle.wasm_validator_canonical.proofs.Apart.{listed_types_are_apart}
+use Rattle.wasm_validator_canonical.proofs.DistinctLists.{listed_types_are_apart}
 use Rattle.wasm_validator_canonical.proofs.types_are_apart.Goals as goal
 
 pub returns : goal.returns

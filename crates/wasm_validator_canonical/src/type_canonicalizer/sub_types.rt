@@ -10,7 +10,7 @@ ghost use Rattle.wasm_readers_types.specs.SeenTypes.{comp_of, sub_of};
 ghost use Rattle.wasm_validator_canonical.specs.Answers.{Says, IsAt};
 ghost use Rattle.wasm_validator_canonical.specs.Refusals.{late_by};
 ghost use Rattle.wasm_validator_canonical.specs.Indices.{IsSmall, IsCanonicalOf, knows_composite, canonical_by, is_known_by, is_earlier, extends_at_most_one, is_bound_by, are_bound_by};
-ghost use Rattle.wasm_validator_canonical.specs.Told.{IfContent, ToldOfIndexBy};
+ghost use Rattle.wasm_validator_canonical.specs.GroupFaults.{IfContent, ToldOfIndexBy};
 
 use crate::type_canonicalizer::TypeCanonicalizer;
 use std::alloc::Allocator;

@@ -1,4 +1,4 @@
-use Rattle.wasm_validator_items.proofs.Renamed.{entries}
+use Rattle.wasm_validator_items.proofs.EntryRenamings.{entries}
 use Rattle.wasm_validator_items.proofs.entries_are_renamed.Goals as goal
 
 -- src/lib.rt:17:1

@@ -2,9 +2,9 @@
 
 ghost use Rattle.std.specs.Prelude.{◌≡◌, ◌<◌, length, IfSome, IsSome, IsTrue, OnOk, OnErr};
 ghost use Rattle.std.specs.declared.option.Option.TheVariants.{None, Some};
-ghost use Rattle.wasm_readers_errors.specs.WasmSpec.Declared.{IsDepth};
-ghost use Rattle.wasm_validator_type_list.specs.Listing.{types_in, with_depths};
-ghost use Rattle.wasm_validator_type_list.specs.Declares.{declares};
+ghost use Rattle.wasm_readers_errors.specs.WasmSpec.SupertypeOrder.{IsDepth};
+ghost use Rattle.wasm_validator_type_list.specs.ListViews.{types_in, with_depths};
+ghost use Rattle.wasm_validator_type_list.specs.DeclarationsById.{declares};
 ghost use Rattle.wasm_validator_type_list.specs.Depths.{depth_of, with_depth, HasDepth};
 
 use crate::type_list::TypeList;

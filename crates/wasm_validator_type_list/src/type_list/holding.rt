@@ -5,8 +5,8 @@ ghost use Rattle.std.specs.Prelude.{◌≡◌, ◌<◌, ◌∷◌, [], length};
 ghost use Rattle.std.specs.Bool.{Decides};
 ghost use Rattle.std.specs.List.{All};
 ghost use Rattle.wasm_readers_types.specs.Entities.{entity_of};
-ghost use Rattle.wasm_validator_type_list.specs.Listable.{IsListable};
-ghost use Rattle.wasm_validator_type_list.specs.Listing.{types_in};
+ghost use Rattle.wasm_validator_type_list.specs.GroupOrder.{IsListable};
+ghost use Rattle.wasm_validator_type_list.specs.ListViews.{types_in};
 ghost use Rattle.wasm_validator_type_list.specs.Subtyping.{IsIdOfOne, IsHeapOver, IsRefOver, IsValOver, IsEntityOver};
 
 use crate::type_list::TypeList;

@@ -3,14 +3,14 @@
 ghost use Rattle.std.specs.Prelude.{◌≡◌, ◌+◌, ◌<◌, ◌∷◌, [], true, false, length, IsOk, IfOk, OnErr, IsTrue};
 ghost use Rattle.std.specs.List.{All};
 ghost use Rattle.std.specs.declared.option.Option.TheVariants.{None};
-ghost use Rattle.wasm_validator_type_ancestors.specs.WasmValidatorTypeGroups.Known.{group_hash};
+ghost use Rattle.wasm_validator_type_ancestors.specs.WasmValidatorTypeGroups.GroupHashes.{group_hash};
 ghost use Rattle.wasm_validator_type_ancestors.specs.WasmValidatorTypeGroups.Places.{IsPlaceOf};
 ghost use Rattle.wasm_readers_errors.specs.WasmSpec.References.{refs_comp};
 ghost use Rattle.wasm_readers_types.specs.SeenTypes.{func_of, final_func};
-ghost use Rattle.wasm_validator_type_list.specs.Listing.{types_in};
-ghost use Rattle.wasm_validator_type_list.specs.Listable.{IsKnown, IsListable};
-ghost use Rattle.wasm_validator_type_list.specs.Interned.{Interns, InternsTypes, InternsOne, InternsSeen};
-ghost use Rattle.wasm_validator_type_list.specs.Refused.{HasGroup, RefusesTooMany, RefusesSeen};
+ghost use Rattle.wasm_validator_type_list.specs.ListViews.{types_in};
+ghost use Rattle.wasm_validator_type_list.specs.GroupOrder.{IsKnown, IsListable};
+ghost use Rattle.wasm_validator_type_list.specs.GroupInterning.{Interns, InternsTypes, InternsOne, InternsSeen};
+ghost use Rattle.wasm_validator_type_list.specs.ListRefusals.{HasGroup, RefusesTooMany, RefusesSeen};
 
 use crate::type_list::TypeList;
 use std::alloc::Allocator;

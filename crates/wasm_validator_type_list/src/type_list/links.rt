@@ -5,8 +5,8 @@ ghost use Rattle.std.specs.Prelude.{◌≡◌, length};
 ghost use Rattle.std.specs.Bool.{Decides};
 ghost use Rattle.wasm_readers_errors.specs.WasmSpec.LinkMatching.{MatchesExtern, MatchesTable, MatchesGlobal};
 ghost use Rattle.wasm_readers_types.specs.Entities.{entity_of};
-ghost use Rattle.wasm_validator_type_list.specs.Listing.{types_in};
-ghost use Rattle.wasm_validator_type_list.specs.Declares.{declares};
+ghost use Rattle.wasm_validator_type_list.specs.ListViews.{types_in};
+ghost use Rattle.wasm_validator_type_list.specs.DeclarationsById.{declares};
 ghost use Rattle.wasm_validator_type_list.specs.Subtyping.{IsRefOver, IsValOver, IsEntityOver, table_by_ids, global_by_ids, entity_by_ids};
 
 use crate::type_list::TypeList;

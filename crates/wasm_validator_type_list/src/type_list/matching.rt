@@ -8,10 +8,10 @@ ghost use Rattle.std.specs.List.{All, AllZip};
 ghost use Rattle.wasm_readers_errors.specs.WasmSpec.References.{refs_heap, refs_val, refs_storage, refs_field, refs_comp, refs_sub};
 ghost use Rattle.wasm_readers_types.specs.WasmReadersValues.SeenValues.{heap_of, ref_of, val_of, storage_of, field_of};
 ghost use Rattle.wasm_readers_types.specs.SeenTypes.{comp_of, sub_of};
-ghost use Rattle.wasm_validator_type_list.specs.Listing.{types_in};
-ghost use Rattle.wasm_validator_type_list.specs.Declares.{declares};
+ghost use Rattle.wasm_validator_type_list.specs.ListViews.{types_in};
+ghost use Rattle.wasm_validator_type_list.specs.DeclarationsById.{declares};
 ghost use Rattle.wasm_validator_type_list.specs.Subtyping.{IsHeapOver, heap_by_ids};
-ghost use Rattle.wasm_validator_type_list.specs.Grouped.{leads_in, heap_in, IsKnownIn, AreIn, RefsMatch, ValsMatch, StoragesMatch, FieldsMatch, FieldListsMatch, CompsMatch, SubsMatch, MatchesDeclared};
+ghost use Rattle.wasm_validator_type_list.specs.GroupTypes.{leads_in, heap_in, IsKnownIn, AreIn, RefsMatch, ValsMatch, StoragesMatch, FieldsMatch, FieldListsMatch, CompsMatch, SubsMatch, MatchesDeclared};
 
 use crate::type_list::{TypeList, id_from};
 use crate::with_rec_group::WithRecGroup;

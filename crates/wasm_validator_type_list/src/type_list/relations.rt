@@ -5,14 +5,14 @@ ghost use Rattle.std.specs.Prelude.{◌≡◌, ◌+◌, ◌<◌, ◌≤◌, ◌^
 ghost use Rattle.std.specs.Bool.{Decides};
 ghost use Rattle.std.specs.declared.option.Option.TheVariants.{Some};
 ghost use Rattle.wasm_readers_errors.specs.WasmSpec.Syntax.{abstract_heap, concrete, exact};
-ghost use Rattle.wasm_readers_errors.specs.WasmSpec.Declared.{IsAncestor, IsDepth};
+ghost use Rattle.wasm_readers_errors.specs.WasmSpec.SupertypeOrder.{IsAncestor, IsDepth};
 ghost use Rattle.wasm_readers_errors.specs.WasmSpec.Matching.{MatchesKind, IsAboveBottom, MatchesHeap, MatchesRef, MatchesVal, top_of_heap, is_shared_type, is_shared_heap, is_shared_val};
 ghost use Rattle.wasm_readers_types.specs.WasmReadersValues.Indices.{IsId};
 ghost use Rattle.wasm_readers_types.specs.WasmReadersValues.SeenValues.{abstract_heap_of};
 ghost use Rattle.wasm_readers_types.specs.WasmReadersValues.declared.indices.UnpackedIndex.TheVariants.{Id};
-ghost use Rattle.wasm_validator_type_list.specs.Listing.{types_in};
-ghost use Rattle.wasm_validator_type_list.specs.Declares.{declares};
-ghost use Rattle.wasm_validator_type_list.specs.Reading.{Counts};
+ghost use Rattle.wasm_validator_type_list.specs.ListViews.{types_in};
+ghost use Rattle.wasm_validator_type_list.specs.DeclarationsById.{declares};
+ghost use Rattle.wasm_validator_type_list.specs.AncestorReads.{Counts};
 ghost use Rattle.wasm_validator_type_list.specs.Subtyping.{IsHeapOver, IsRefOver, IsValOver, heap_by_ids, ref_by_ids, val_by_ids};
 
 use crate::type_list::TypeList;

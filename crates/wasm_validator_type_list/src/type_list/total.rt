@@ -2,8 +2,8 @@
 
 ghost use Rattle.std.specs.Prelude.{◌≡◌};
 ghost use Rattle.std.specs.Bool.{Decides};
-ghost use Rattle.wasm_readers_errors.specs.WasmSpec.Declared.{IsAncestor};
-ghost use Rattle.wasm_validator_type_list.specs.Declares.{declares};
+ghost use Rattle.wasm_readers_errors.specs.WasmSpec.SupertypeOrder.{IsAncestor};
+ghost use Rattle.wasm_validator_type_list.specs.DeclarationsById.{declares};
 ghost use Rattle.wasm_validator_type_list.specs.Worlds.{ids_world};
 
 use crate::type_list::TypeList;

@@ -3,10 +3,10 @@ use Rattle.std.specs.declared.result.Result.TheVariants.{Ok}
 use Rattle.std.proofs.lemmas.Option.{slice_get_read}
 use Rattle.wasm_readers_errors.specs.WasmReadersFeatures.declared.features.TheConstants.WasmFeatures.{STANDARD}
 use Rattle.wasm_spec_rules.specs.FeatureFlags.{features_of}
-use Rattle.wasm_validator.specs.Standing.{Standing}
+use Rattle.wasm_validator.specs.ValidatorStages.{Standing}
 use Rattle.wasm_validator.specs.Headline.{Headline, types_held}
 use Rattle.wasm_validator.specs.Lists.{lent}
-use Rattle.examples.proofs.Linked.{linked}
+use Rattle.examples.proofs.FunctionLinks.{linked}
 use Rattle.examples.proofs.proved_linker.may_link.Goals as goal
 
 pub returns-in-Some-Ok-Some-Ok : goal.returns-in-Some-Ok-Some-Ok

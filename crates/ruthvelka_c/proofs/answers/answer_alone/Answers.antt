@@ -1,8 +1,8 @@
 use Rattle.std.proofs.Common.{◌≡◌, ℕ, ap, subst, ◌∙◌}
 use Rattle.wasm_validator_handles.specs.WasmValidator.Verdict.{DecidesModule}
-use Rattle.wasm_validator_handles.specs.WasmValidator.Standing.{Standing, fresh}
+use Rattle.wasm_validator_handles.specs.WasmValidator.ValidatorStages.{Standing, fresh}
 use Rattle.ruthvelka_c.specs.Reports.{flags}
-use Rattle.ruthvelka_c.proofs.Alone.{decides_alone, within}
+use Rattle.ruthvelka_c.proofs.LoneModuleIds.{decides_alone, within}
 use Rattle.ruthvelka_c.proofs.answers.answer_alone.Goals as goal
 
 pub returns-clause-decided : goal.returns-clause-decided

@@ -1,6 +1,6 @@
 use Rattle.std.proofs.Common.{◌≡◌, ℕ, List, [], map, ap, subst, ◌∙◌, Bor}
 use Rattle.wasm_spec_rules.specs.FeatureFlags.{features_of}
-use Rattle.wasm_validator_handles.specs.WasmValidator.Standing.{Standing, fresh}
+use Rattle.wasm_validator_handles.specs.WasmValidator.ValidatorStages.{Standing, fresh}
 use Rattle.wasm_validator_handles.specs.WasmValidator.Lists.{DecidesEach}
 use Rattle.wasm_validator_handles.specs.WasmValidator.Headline.{Headline, types_held}
 use Rattle.ruthvelka_c.specs.Reports.{flags}

@@ -1,6 +1,6 @@
 use Rattle.std.proofs.Common.{map, slice_index}
-use Rattle.wasm_validator_handles.specs.WasmValidator.WasmValidatorTypes.Shown.{shown_by}
-use Rattle.ruthvelka_c.proofs.Writing.{Upto}
+use Rattle.wasm_validator_handles.specs.WasmValidator.WasmValidatorTypes.ShownModules.{shown_by}
+use Rattle.ruthvelka_c.proofs.ArrayWrites.{Upto}
 use Rattle.ruthvelka_c.proofs.arrays.write_function_ids.Given as goal
 
 abbrev pub invariant-functions : goal.invariant-functions

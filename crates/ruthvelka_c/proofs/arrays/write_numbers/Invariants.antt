@@ -1,4 +1,4 @@
-use Rattle.ruthvelka_c.proofs.Writing.{Upto}
+use Rattle.ruthvelka_c.proofs.ArrayWrites.{Upto}
 use Rattle.ruthvelka_c.proofs.arrays.write_numbers.Given as goal
 
 abbrev pub invariant-numbers : goal.invariant-numbers

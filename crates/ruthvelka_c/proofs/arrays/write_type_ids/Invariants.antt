@@ -1,5 +1,5 @@
-use Rattle.wasm_validator_handles.specs.WasmValidator.WasmValidatorTypes.Shown.{shown_by}
-use Rattle.ruthvelka_c.proofs.Writing.{Upto}
+use Rattle.wasm_validator_handles.specs.WasmValidator.WasmValidatorTypes.ShownModules.{shown_by}
+use Rattle.ruthvelka_c.proofs.ArrayWrites.{Upto}
 use Rattle.ruthvelka_c.proofs.arrays.write_type_ids.Given as goal
 
 abbrev pub invariant-types : goal.invariant-types

@@ -1,6 +1,6 @@
 use Rattle.std.proofs.Common.{◌≡◌, slice_get, Some, option_map}
 use Rattle.wasm_validator_handles.specs.Entities.{plain_of}
-use Rattle.ruthvelka_c.proofs.Reporting.{ToldUpto}
+use Rattle.ruthvelka_c.proofs.ItemReports.{ToldUpto}
 use Rattle.ruthvelka_c.proofs.externs.write_externs.Given as goal
 
 abbrev pub invariant-externs : goal.invariant-externs

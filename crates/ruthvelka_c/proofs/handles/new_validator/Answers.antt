@@ -1,5 +1,5 @@
 use Rattle.std.proofs.Common.{◌≡◌, ℕ, ap, ◌∙◌}
-use Rattle.wasm_validator_handles.specs.WasmValidator.Standing.{fresh}
+use Rattle.wasm_validator_handles.specs.WasmValidator.ValidatorStages.{fresh}
 use Rattle.ruthvelka_c.specs.Reports.{flags}
 use Rattle.ruthvelka_c.proofs.handles.new_validator.Goals as goal
 

@@ -1,4 +1,4 @@
-use Rattle.ruthvelka_c.proofs.Given.{no_text}
+use Rattle.ruthvelka_c.proofs.AnswerExterns.{no_text}
 use Rattle.ruthvelka_c.proofs.handles.ruthvelka_proved_validator_validate.Goals as goal
 
 pub returns-in-Err-clause-message : goal.returns-in-Err-clause-message

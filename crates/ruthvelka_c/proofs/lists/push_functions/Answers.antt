@@ -1,7 +1,7 @@
 use Rattle.std.proofs.Common.{◌+◌, take, slice_index, arith}
-use Rattle.wasm_validator_handles.specs.WasmValidator.WasmValidatorTypes.Shown.{shown_by}
+use Rattle.wasm_validator_handles.specs.WasmValidator.WasmValidatorTypes.ShownModules.{shown_by}
 use Rattle.ruthvelka_c.specs.Reports.{function_ids}
-use Rattle.ruthvelka_c.proofs.Pushing.{function_more, joined}
+use Rattle.ruthvelka_c.proofs.FunctionIds.{function_more, joined}
 use Rattle.ruthvelka_c.proofs.lists.push_functions.Goals as goal
 
 pub functions-preserved : goal.functions-preserved

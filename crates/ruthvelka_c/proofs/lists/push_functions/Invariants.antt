@@ -1,5 +1,5 @@
 use Rattle.std.proofs.Common.{◌≡◌, ◌++◌, take}
-use Rattle.wasm_validator_handles.specs.WasmValidator.WasmValidatorTypes.Shown.{shown_by}
+use Rattle.wasm_validator_handles.specs.WasmValidator.WasmValidatorTypes.ShownModules.{shown_by}
 use Rattle.ruthvelka_c.specs.Reports.{function_ids}
 use Rattle.ruthvelka_c.proofs.lists.push_functions.Given as goal
 

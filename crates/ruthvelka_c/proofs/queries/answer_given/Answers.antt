@@ -1,6 +1,6 @@
 use Rattle.std.proofs.Common.{ℕ, ap, ◌∙◌}
 use Rattle.ruthvelka_c.specs.Queries.{MayBeGiven, list_behind, types_at}
-use Rattle.ruthvelka_c.proofs.Asking.{says_same}
+use Rattle.ruthvelka_c.proofs.QuestionAnswers.{says_same}
 use Rattle.ruthvelka_c.proofs.queries.answer_given.Goals as goal
 
 pub returns : goal.returns

@@ -1,7 +1,7 @@
 use Rattle.std.proofs.Common.{ℕ, ◌≡◌, slice_get, Option, Some, subst, sym, ◌∙◌, arith}
 use Rattle.ruthvelka_c.specs.declared.queries.Query.{Query}
 use Rattle.ruthvelka_c.specs.Queries.{AnswersMaybe}
-use Rattle.ruthvelka_c.proofs.Reporting.{one_more_told}
+use Rattle.ruthvelka_c.proofs.ItemReports.{one_more_told}
 use Rattle.ruthvelka_c.proofs.queries.answer_queries.Goals as goal
 
 pub queries-preserved : goal.queries-preserved

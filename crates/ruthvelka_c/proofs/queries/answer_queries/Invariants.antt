@@ -1,6 +1,6 @@
 use Rattle.std.proofs.Common.{slice_get}
 use Rattle.ruthvelka_c.specs.Queries.{AnswersMaybe}
-use Rattle.ruthvelka_c.proofs.Reporting.{ToldUpto}
+use Rattle.ruthvelka_c.proofs.ItemReports.{ToldUpto}
 use Rattle.ruthvelka_c.proofs.queries.answer_queries.Given as goal
 
 abbrev pub invariant-queries : goal.invariant-queries

@@ -1,5 +1,5 @@
 use Rattle.std.proofs.Common.{◌≡◌, length, slice_get}
-use Rattle.wasm_validator_handles.specs.WasmValidator.WasmValidatorTypes.Left.{exports_left}
+use Rattle.wasm_validator_handles.specs.WasmValidator.WasmValidatorTypes.IteratorItems.{exports_left}
 use Rattle.ruthvelka_c.proofs.queries.nth_export.Given as goal
 
 abbrev pub invariant-exports : goal.invariant-exports

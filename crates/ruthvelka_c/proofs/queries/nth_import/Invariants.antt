@@ -1,5 +1,5 @@
 use Rattle.std.proofs.Common.{◌≡◌, length, slice_get}
-use Rattle.wasm_validator_handles.specs.WasmValidator.WasmValidatorTypes.Left.{imports_left}
+use Rattle.wasm_validator_handles.specs.WasmValidator.WasmValidatorTypes.IteratorItems.{imports_left}
 use Rattle.ruthvelka_c.proofs.queries.nth_import.Given as goal
 
 abbrev pub invariant-imports : goal.invariant-imports

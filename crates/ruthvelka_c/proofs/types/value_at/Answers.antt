@@ -1,6 +1,6 @@
 use Rattle.std.proofs.Common.{◌∙◌, sym, ap, refl, length, Some}
 use Rattle.std.proofs.lemmas.Option.{slice_get_read}
-use Rattle.wasm_validator_handles.proofs.Valued.{value_there}
+use Rattle.wasm_validator_handles.proofs.ValueNumbers.{value_there}
 use Rattle.ruthvelka_c.proofs.types.value_at.Goals as goal
 
 pub returns : goal.returns

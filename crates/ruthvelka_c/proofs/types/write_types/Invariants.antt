@@ -1,5 +1,5 @@
 use Rattle.std.proofs.Common.{◌≡◌, slice_get, Some}
-use Rattle.ruthvelka_c.proofs.Reporting.{ToldUpto}
+use Rattle.ruthvelka_c.proofs.ItemReports.{ToldUpto}
 use Rattle.ruthvelka_c.proofs.types.write_types.Given as goal
 
 abbrev pub invariant-types : goal.invariant-types

@@ -4,7 +4,7 @@ use Rattle.std.proofs.lemmas.List.{length-map}
 use Rattle.wasm_validator_handles.specs.Signatures.{values_by_ids}
 use Rattle.wasm_validator_handles.specs.Values.{numbers_of}
 use Rattle.wasm_validator_handles.specs.declared.values.ValueType.{ValueType}
-use Rattle.ruthvelka_c.proofs.Reporting.{one_more_told, all_told}
+use Rattle.ruthvelka_c.proofs.ItemReports.{one_more_told, all_told}
 use Rattle.ruthvelka_c.proofs.types.write_values.Goals as goal
 
 pub values-preserved : goal.values-preserved

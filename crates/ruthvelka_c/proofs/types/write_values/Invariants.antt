@@ -1,7 +1,7 @@
 use Rattle.std.proofs.Common.{◌≡◌, slice_get, Some, option_map}
 use Rattle.wasm_validator_handles.specs.Signatures.{values_by_ids}
 use Rattle.wasm_validator_handles.specs.Values.{numbers_of}
-use Rattle.ruthvelka_c.proofs.Reporting.{ToldUpto}
+use Rattle.ruthvelka_c.proofs.ItemReports.{ToldUpto}
 use Rattle.ruthvelka_c.proofs.types.write_values.Given as goal
 
 abbrev pub invariant-values : goal.invariant-values

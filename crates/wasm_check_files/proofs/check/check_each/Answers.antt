@@ -1,9 +1,9 @@
 use Rattle.std.proofs.Common.{ℕ, ◌≡◌, ◌+◌, ◌≤◌, [], ◌∷◌, ◌++◌, map, take, get_or, refl, sym, subst, ◌∙◌, arith}
 use Rattle.std.specs.Prelude.{⊤}
 use Rattle.wasm_check_reports.specs.WasmValidateFiles.Files.{HasRoomForAll}
-use Rattle.wasm_check_files.specs.Checked.{WereChecked}
-use Rattle.wasm_check_files.proofs.Named.{taken_more}
-use Rattle.wasm_check_files.proofs.Told.{none_checked, one_more}
+use Rattle.wasm_check_files.specs.ExitStatuses.{WereChecked}
+use Rattle.wasm_check_files.proofs.FilesByName.{taken_more}
+use Rattle.wasm_check_files.proofs.WorstStatuses.{none_checked, one_more}
 use Rattle.wasm_check_files.proofs.check.check_each.Goals as goal
 
 is_two : (s r : ℕ) → s ≡ 2 → s ≤ r → r ≤ 2 → r ≡ 2

@@ -1,6 +1,6 @@
 use Rattle.std.proofs.Common.{◌≡◌, map, take}
 use Rattle.std.specs.Prelude.{⊤}
-use Rattle.wasm_check_files.specs.Checked.{WereChecked}
+use Rattle.wasm_check_files.specs.ExitStatuses.{WereChecked}
 use Rattle.wasm_check_reports.specs.declared.settings.Form.TheVariants.{Quiet}
 use Rattle.wasm_check_files.proofs.check.check_each.Given as goal
 

@@ -1,6 +1,6 @@
 use Rattle.std.proofs.Common.{map}
-use Rattle.wasm_check_files.specs.Checked.{room_for}
-use Rattle.wasm_check_files.proofs.Told.{troubled}
+use Rattle.wasm_check_files.specs.ExitStatuses.{room_for}
+use Rattle.wasm_check_files.proofs.WorstStatuses.{troubled}
 use Rattle.wasm_check_files.proofs.check.check_files.Goals as goal
 
 pub returns-in-Err-clause-told : goal.returns-in-Err-clause-told

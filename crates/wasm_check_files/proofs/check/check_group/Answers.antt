@@ -3,8 +3,8 @@ use Rattle.std.specs.List.{All}
 use Rattle.std.specs.declared.alloc.Global.{Global}
 use Rattle.std.proofs.lemmas.List.Elements.{All-nil, All-cons, All-append}
 use Rattle.wasm_check_reports.specs.WasmValidateFiles.Files.{IsRead}
-use Rattle.wasm_check_files.specs.Checked.{AreFilesOf}
-use Rattle.wasm_check_files.proofs.Named.{one_more_file, taken_more, is_file}
+use Rattle.wasm_check_files.specs.ExitStatuses.{AreFilesOf}
+use Rattle.wasm_check_files.proofs.FilesByName.{one_more_file, taken_more, is_file}
 use Rattle.wasm_check_files.proofs.check.check_group.Goals as goal
 use Rattle.wasm_check_files.proofs.check.check_group.Goals.{in-Ok+in_ok-input_of-in-Ok+in_ok-push-in-Ok, in-Err+in_ok-tell_unread-in-Err}
 

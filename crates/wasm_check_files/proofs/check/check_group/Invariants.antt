@@ -2,7 +2,7 @@ use Rattle.std.proofs.Common.{◌≡◌, ◌≤◌, vec_len, map, take}
 use Rattle.std.specs.List.{All}
 use Rattle.wasm_check_reports.specs.WasmValidateFiles.Files.{IsRead}
 use Rattle.wasm_check_reports.specs.declared.settings.Form.TheVariants.{Quiet}
-use Rattle.wasm_check_files.specs.Checked.{AreFilesOf}
+use Rattle.wasm_check_files.specs.ExitStatuses.{AreFilesOf}
 use Rattle.wasm_check_files.proofs.check.check_group.Given as goal
 
 abbrev pub invariant-names : goal.invariant-names

@@ -3,7 +3,7 @@ use Rattle.std.proofs.lemmas.List.{length-map}
 use Rattle.wasm_check_reports.specs.WasmValidateFiles.Files.{bytes_held}
 use Rattle.wasm_check_reports.specs.WasmValidateFiles.Answers.{AreAnswers}
 use Rattle.wasm_check_files.specs.Statuses.{IsWorst}
-use Rattle.wasm_check_files.proofs.Told.{status_tells}
+use Rattle.wasm_check_files.proofs.WorstStatuses.{status_tells}
 use Rattle.wasm_check_files.proofs.check.check_inputs.Goals as goal
 
 pub returns-clause-told : goal.returns-clause-told

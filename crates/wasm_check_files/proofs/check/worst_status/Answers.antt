@@ -1,5 +1,5 @@
 use Rattle.std.proofs.Common.{inl, inr, refl, arith, subst}
-use Rattle.wasm_check_files.proofs.Told.{more_worst}
+use Rattle.wasm_check_files.proofs.WorstStatuses.{more_worst}
 use Rattle.wasm_check_files.proofs.check.worst_status.Goals as goal
 
 pub places-init : goal.places-init

@@ -1,7 +1,7 @@
 use Rattle.std.proofs.Common.{ℕ, zero, suc, ◌≡◌, ◌<◌, List, [], ◌∷◌, length, map, get_or, slice_get, Some, refl, sym, ap, ◌∙◌, arith}
 use Rattle.std.proofs.lemmas.List.{take-map}
 use Rattle.wasm_readers_errors.specs.WasmReadersFeatures.contracts.features.WasmFeaturesFlags.TheImpl.{ghosts}
-use Rattle.wasm_check_files.specs.Selecting.{selected}
+use Rattle.wasm_check_files.specs.FeatureWords.{selected}
 use Rattle.wasm_check_files.proofs.features.select_features.Goals as goal
 
 slice_get-map_within : {X Y : Type 0} (f : X → Y) (xs : List X) (k : ℕ) (d : X) → k < length xs → slice_get (map f xs) k ≡ Some (f (get_or xs k d))

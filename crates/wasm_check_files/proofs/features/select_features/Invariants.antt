@@ -1,6 +1,6 @@
 use Rattle.std.proofs.Common.{◌≡◌, Some, map, take}
 use Rattle.wasm_readers_errors.specs.WasmReadersFeatures.contracts.features.WasmFeaturesFlags.TheImpl.{ghosts}
-use Rattle.wasm_check_files.specs.Selecting.{selected}
+use Rattle.wasm_check_files.specs.FeatureWords.{selected}
 use Rattle.wasm_check_files.proofs.features.select_features.Given as goal
 
 abbrev pub invariant-words : goal.invariant-words

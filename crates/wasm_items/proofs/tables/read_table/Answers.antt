@@ -1,6 +1,6 @@
 use Rattle.wasm_readers.specs.WasmReadersBytes.Reader.{rest}
 use Rattle.wasm_readers.specs.WasmReadersTypes.SeenExterns.{table_of}
-use Rattle.wasm_readers.specs.Written.{written}
+use Rattle.wasm_readers.specs.WrittenIndices.{written}
 use Rattle.wasm_operators.specs.Expressions.{expression_at}
 use Rattle.wasm_items.specs.SeenReaders.{expression_of}
 use Rattle.wasm_items.proofs.TableHeads.{table_with_init}

@@ -1,7 +1,7 @@
 use Rattle.std.proofs.Common.{◌≡◌, refl, ℕ, List, Option, Some}
 use Rattle.std.specs.Option.{option_map, option_and_then}
 use Rattle.wasm_operators_proposals.specs.WasmOperatorsPlain.WasmReaders.WasmReadersBytes.Reader.{rest}
-use Rattle.wasm_operators_proposals.specs.WasmOperatorsPlain.WasmReaders.Written.{written}
+use Rattle.wasm_operators_proposals.specs.WasmOperatorsPlain.WasmReaders.WrittenIndices.{written}
 use Rattle.wasm_operators.specs.Control.{block_at, catch_at}
 use Rattle.wasm_operators.specs.SeenControl.{block_of}
 use Rattle.wasm_operators.specs.SeenLists.{listed}

@@ -1,10 +1,10 @@
 use Rattle.std.proofs.Common.{◌≡◌, ◌≤◌, ◌<◌, ◌+◌, Some, None, arith, rules}
 use Rattle.std.proofs.lemmas.Grind.{common_steps}
 use Rattle.wasm_operators_proposals.specs.WasmOperatorsPlain.WasmReaders.WasmReadersBytes.Reader.{position_in, rest}
-use Rattle.wasm_operators_proposals.specs.WasmOperatorsPlain.WasmReaders.Written.{written}
+use Rattle.wasm_operators_proposals.specs.WasmOperatorsPlain.WasmReaders.WrittenIndices.{written}
 use Rattle.wasm_operators.specs.Expressions.{nesting_of, depth_after, behind_expression}
 use Rattle.wasm_operators.specs.SeenOperators.{operator_of}
-use Rattle.wasm_operators.proofs.Skipping.{shorter, one_deeper, go_one, end_here, none_here}
+use Rattle.wasm_operators.proofs.ExpressionEnds.{shorter, one_deeper, go_one, end_here, none_here}
 use Rattle.wasm_operators.proofs.expressions.skip_expression.Goals as goal
 
 pub returns-in_err-operator-clause-err : goal.returns-in_err-operator-clause-err

@@ -2,7 +2,7 @@ use Rattle.std.proofs.Common.{◌≡◌, ℕ, List, ◌∷◌, Some, refl}
 use Rattle.wasm_operators_proposals.specs.WasmOperatorsPlain.WasmSpec.Syntax.{i32, i64, f32, f64}
 use Rattle.wasm_operators_proposals.specs.WasmOperatorsPlain.WasmSpec.BinaryTypes.{val_at}
 use Rattle.wasm_operators_proposals.specs.WasmOperatorsPlain.WasmReaders.WasmReadersBytes.Reader.{rest}
-use Rattle.wasm_operators_proposals.specs.WasmOperatorsPlain.WasmReaders.Written.{written}
+use Rattle.wasm_operators_proposals.specs.WasmOperatorsPlain.WasmReaders.WrittenIndices.{written}
 use Rattle.wasm_operators.specs.Control.{empty_block, value_block, block_at}
 use Rattle.wasm_operators.proofs.frequent.next_block_type.Goals as goal
 

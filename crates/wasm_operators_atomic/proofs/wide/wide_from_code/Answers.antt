@@ -1,6 +1,6 @@
 use Rattle.wasm_operators_vector.proofs.Entries.{entry_of}
 use Rattle.wasm_operators_atomic.proofs.WideNumbers.{wide_table}
-use Rattle.wasm_operators_atomic.specs.Wide.{wide_code, wide_from}
+use Rattle.wasm_operators_atomic.specs.WideArithmetic.{wide_code, wide_from}
 use Rattle.wasm_operators_atomic.proofs.wide.wide_from_code.Goals as goal
 
 pub returns : goal.returns

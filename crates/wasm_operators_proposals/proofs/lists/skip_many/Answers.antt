@@ -1,6 +1,6 @@
 use Rattle.std.proofs.Common.{◌∙◌, arith, rules}
 use Rattle.wasm_operators_plain.specs.WasmReaders.WasmReadersBytes.Reader.{rest}
-use Rattle.wasm_operators_proposals.proofs.Listing.{one_less}
+use Rattle.wasm_operators_proposals.proofs.ListReads.{one_less}
 use Rattle.wasm_operators_proposals.proofs.lists.skip_many.Goals as goal
 
 pub items-preserved : goal.items-preserved

@@ -1,11 +1,11 @@
 use Rattle.std.proofs.Common.{◌≡◌, sym, ap, subst, ◌∙◌, ◌++◌, ℕ, List, length, arith}
 use Rattle.wasm_parser.specs.Places.{input_end}
-use Rattle.wasm_parser.specs.Seen.{seen, state}
-use Rattle.wasm_parser.proofs.Falls.{falls}
+use Rattle.wasm_parser.specs.PayloadViews.{seen, state}
+use Rattle.wasm_parser.proofs.PieceCounts.{falls}
 use Rattle.wasm_parser_ranges.specs.declared.bodies.Body.{Body}
 use Rattle.wasm_parser_ranges.specs.Ranges.{body_between}
 use Rattle.wasm_parser_ranges.proofs.Pieces.{SoFar, begin, one_more, told_all, framed_all, refused}
-use Rattle.wasm_parser_ranges.proofs.Placed.{bodies_are, same_end, begin_lie, lie_on}
+use Rattle.wasm_parser_ranges.proofs.SectionPlaces.{bodies_are, same_end, begin_lie, lie_on}
 use Rattle.wasm_parser_ranges.proofs.bodies.find_bodies.Goals as goal
 
 pub payloads-init : goal.payloads-init

@@ -1,10 +1,10 @@
 use Rattle.std.proofs.Common.{◌≡◌, length}
 use Rattle.wasm_parser.specs.Machine.{most_left}
 use Rattle.wasm_parser.specs.Places.{ReadsInput, input_end}
-use Rattle.wasm_parser.specs.Seen.{state}
+use Rattle.wasm_parser.specs.PayloadViews.{state}
 use Rattle.wasm_parser_ranges.specs.Ranges.{body_between}
 use Rattle.wasm_parser_ranges.proofs.Pieces.{SoFar}
-use Rattle.wasm_parser_ranges.proofs.Placed.{BodiesLie}
+use Rattle.wasm_parser_ranges.proofs.SectionPlaces.{BodiesLie}
 use Rattle.wasm_parser_ranges.proofs.bodies.find_bodies.Given as goal
 
 abbrev pub invariant-payloads : goal.invariant-payloads

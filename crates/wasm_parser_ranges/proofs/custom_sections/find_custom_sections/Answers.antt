@@ -1,11 +1,11 @@
 use Rattle.std.proofs.Common.{◌≡◌, sym, ap, subst, ◌∙◌, ◌++◌, ℕ, List, length, arith}
 use Rattle.wasm_parser.specs.Places.{input_end}
-use Rattle.wasm_parser.specs.Seen.{seen, state}
-use Rattle.wasm_parser.proofs.Falls.{falls}
+use Rattle.wasm_parser.specs.PayloadViews.{seen, state}
+use Rattle.wasm_parser.proofs.PieceCounts.{falls}
 use Rattle.wasm_parser_ranges.specs.declared.custom_sections.CustomSection.{CustomSection}
 use Rattle.wasm_parser_ranges.specs.Ranges.{custom_between}
 use Rattle.wasm_parser_ranges.proofs.Pieces.{SoFar, begin, one_more, told_all, framed_all, refused}
-use Rattle.wasm_parser_ranges.proofs.Placed.{customs_are, same_end}
+use Rattle.wasm_parser_ranges.proofs.SectionPlaces.{customs_are, same_end}
 use Rattle.wasm_parser_ranges.proofs.custom_sections.find_custom_sections.Goals as goal
 
 pub payloads-init : goal.payloads-init

@@ -1,7 +1,7 @@
 use Rattle.std.proofs.Common.{◌≡◌, length}
 use Rattle.wasm_parser.specs.Machine.{most_left}
 use Rattle.wasm_parser.specs.Places.{ReadsInput, input_end}
-use Rattle.wasm_parser.specs.Seen.{state}
+use Rattle.wasm_parser.specs.PayloadViews.{state}
 use Rattle.wasm_parser_ranges.specs.Ranges.{custom_between}
 use Rattle.wasm_parser_ranges.proofs.Pieces.{SoFar}
 use Rattle.wasm_parser_ranges.proofs.custom_sections.find_custom_sections.Given as goal

@@ -1,6 +1,6 @@
 use Rattle.std.proofs.Common.{◌≡◌, ◌∙◌, suc, ◌+◌, ◌-◌, arith}
 use Rattle.wasm_readers_bytes.specs.Reader.{rest}
-use Rattle.wasm_parser_ranges.proofs.Named.{name_step}
+use Rattle.wasm_parser_ranges.proofs.NameSections.{name_step}
 use Rattle.wasm_parser_ranges.proofs.function_names.find_in_list.Goals as goal
 
 pub names-preserved : goal.names-preserved

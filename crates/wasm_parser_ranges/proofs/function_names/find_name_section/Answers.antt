@@ -1,8 +1,8 @@
 use Rattle.std.proofs.Common.{refl}
 use Rattle.std.specs.Option.{option_map}
-use Rattle.wasm_parser.specs.Seen.{seen, state}
-use Rattle.wasm_parser.proofs.Falls.{falls}
-use Rattle.wasm_parser_ranges.proofs.Named.{begin, one_more, finish, refused}
+use Rattle.wasm_parser.specs.PayloadViews.{seen, state}
+use Rattle.wasm_parser.proofs.PieceCounts.{falls}
+use Rattle.wasm_parser_ranges.proofs.NameSections.{begin, one_more, finish, refused}
 use Rattle.wasm_parser_ranges.proofs.function_names.find_name_section.Goals as goal
 
 pub payloads-init : goal.payloads-init

@@ -1,7 +1,7 @@
 use Rattle.std.specs.Option.{option_map}
 use Rattle.wasm_parser.specs.Machine.{most_left}
-use Rattle.wasm_parser.specs.Seen.{state}
-use Rattle.wasm_parser_ranges.proofs.Named.{SoFar}
+use Rattle.wasm_parser.specs.PayloadViews.{state}
+use Rattle.wasm_parser_ranges.proofs.NameSections.{SoFar}
 use Rattle.wasm_parser_ranges.proofs.function_names.find_name_section.Given as goal
 
 abbrev pub invariant-payloads : goal.invariant-payloads

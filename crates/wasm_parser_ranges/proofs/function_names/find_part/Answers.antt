@@ -1,6 +1,6 @@
 use Rattle.std.proofs.Common.{◌≡◌, ◌∙◌, suc, ◌+◌, ◌-◌, length, arith}
 use Rattle.wasm_readers_bytes.specs.Reader.{rest}
-use Rattle.wasm_parser_ranges.proofs.Named.{part_step}
+use Rattle.wasm_parser_ranges.proofs.NameSections.{part_step}
 use Rattle.wasm_parser_ranges.proofs.function_names.find_part.Goals as goal
 
 pub parts-preserved : goal.parts-preserved

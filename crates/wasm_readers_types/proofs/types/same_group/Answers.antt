@@ -2,7 +2,7 @@ use Rattle.std.specs.Prelude.{map}
 use Rattle.std.proofs.Common.{ap}
 use Rattle.wasm_readers_values.specs.Exactness.{exact-as}
 use Rattle.wasm_readers_types.specs.SeenTypes.{sub_of}
-use Rattle.wasm_readers_types.specs.SeenApart.{subs_of-apart}
+use Rattle.wasm_readers_types.specs.SyntaxEquality.{subs_of-apart}
 use Rattle.wasm_readers_types.specs.TypesExact.{group-exact}
 use Rattle.wasm_readers_types.proofs.types.same_group.Goals as goal
 

@@ -1,7 +1,7 @@
 use Rattle.std.proofs.Common.{ap}
 use Rattle.wasm_readers_values.specs.Exactness.{exact-as}
 use Rattle.wasm_readers_types.specs.SeenTypes.{sub_of}
-use Rattle.wasm_readers_types.specs.SeenApart.{sub_of-apart}
+use Rattle.wasm_readers_types.specs.SyntaxEquality.{sub_of-apart}
 use Rattle.wasm_readers_types.specs.TypesExact.{sub-exact}
 use Rattle.wasm_readers_types.proofs.types.same_sub.Goals as goal
 

@@ -5,7 +5,7 @@ use Rattle.std.specs.declared.result.Result.TheVariants.{Ok}
 use Rattle.std.proofs.lemmas.Bool.{false≢true}
 use Rattle.wasm_readers_errors.specs.WasmReadersFeatures.declared.features.TheConstants.WasmFeatures.{STANDARD}
 use Rattle.wasm_validate_files.specs.Answers.{Tells}
-use Rattle.wasm_validate_files.proofs.Told.{all_read, none_unread, all_accepted, all_answered}
+use Rattle.wasm_validate_files.proofs.FileStatuses.{all_read, none_unread, all_accepted, all_answered}
 use Rattle.wasm_validate_files.proofs.files.run.Goals as goal
 
 printed : {V E : Type 0} (r : Result V E) (v : V) (P : V → Type 0) → r ≡ Ok v → IfOk r P → P v

@@ -1,7 +1,7 @@
 use Rattle.std.proofs.Common.{refl, sym, subst, ◌+◌, arith}
-use Rattle.wasm_validator.proofs.Going.{SoFar, begin, next, stop, finish}
+use Rattle.wasm_validator.proofs.ModuleSequences.{SoFar, begin, next, stop, finish}
 use Rattle.wasm_validator.proofs.Headline.{headline}
-use Rattle.wasm_validator.proofs.Held.{all_held}
+use Rattle.wasm_validator.proofs.ShownTypeIds.{all_held}
 use Rattle.wasm_validator.specs.Lists.{DecidesEach, lent}
 use Rattle.wasm_validator.proofs.list.validate_list.Goals as goal
 

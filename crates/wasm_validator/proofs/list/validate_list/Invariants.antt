@@ -1,5 +1,5 @@
 use Rattle.std.proofs.Common.{◌≡◌, ◌≤◌, length, vec_len, vec_capacity}
-use Rattle.wasm_validator.proofs.Going.{SoFar}
+use Rattle.wasm_validator.proofs.ModuleSequences.{SoFar}
 use Rattle.wasm_validator.proofs.list.validate_list.Given as goal
 
 abbrev pub invariant-modules : goal.invariant-modules

@@ -2,8 +2,8 @@ use Rattle.std.proofs.Common.{refl, sym, ◌-◌, ◌<◌, ◌∙◌, length, su
 use Rattle.std.proofs.lemmas.List.Elements.{All-head, All-tail}
 use Rattle.wasm_validator_type_list.specs.WasmValidatorTypeGroups.Elements.{ids_left}
 use Rattle.wasm_validator_type_list.specs.WasmValidatorTypeGroups.Groups.{all_in}
-use Rattle.wasm_validator_type_list.specs.Listable.{AreListable}
-use Rattle.wasm_validator_type_list.specs.Listing.{types_in}
+use Rattle.wasm_validator_type_list.specs.GroupOrder.{AreListable}
+use Rattle.wasm_validator_type_list.specs.ListViews.{types_in}
 use Rattle.wasm_validator_canonical.specs.Depths.{FitsByte}
 use Rattle.wasm_validator_canonical.proofs.KeptDepths.{kept_at_first, kept_next, kept_at_last, earlier_both, fits_same}
 use Rattle.wasm_validator_canonical.proofs.depths.keep_depths.Goals as goal

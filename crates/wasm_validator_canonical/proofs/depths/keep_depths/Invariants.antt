@@ -1,6 +1,6 @@
 use Rattle.std.proofs.Common.{◌≡◌, ◌-◌, ◌<◌, length, All}
 use Rattle.wasm_validator_type_list.specs.WasmValidatorTypeGroups.Elements.{ids_left}
-use Rattle.wasm_validator_type_list.specs.Listing.{types_in}
+use Rattle.wasm_validator_type_list.specs.ListViews.{types_in}
 use Rattle.wasm_validator_canonical.specs.Depths.{StillKept, FitsByte}
 use Rattle.wasm_validator_canonical.proofs.KeptDepths.{KeptSoFar}
 use Rattle.wasm_validator_canonical.proofs.depths.keep_depths.Given as goal

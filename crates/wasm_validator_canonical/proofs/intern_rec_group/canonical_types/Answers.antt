@@ -9,9 +9,9 @@ use Rattle.wasm_readers_types.specs.WasmReadersValues.declared.indices.CoreTypeI
 use Rattle.wasm_readers_types.specs.WasmReadersValues.declared.indices.TheConstants.{MAX_IDS}
 use Rattle.wasm_validator_canonical.specs.Answers.{Says, IsAt}
 use Rattle.wasm_validator_canonical.specs.Indices.{numbers, canonical_index, are_bound, extends_at_most_one, extend_at_most_one}
-use Rattle.wasm_validator_canonical.proofs.Canonical.{and_false}
+use Rattle.wasm_validator_canonical.proofs.CanonicalTypes.{and_false}
 use Rattle.wasm_validator_canonical.proofs.Bounds.{closes_is}
-use Rattle.wasm_validator_canonical.proofs.Told.{err_says, index_tells}
+use Rattle.wasm_validator_canonical.proofs.GroupRefusals.{err_says, index_tells}
 use Rattle.wasm_validator_canonical.proofs.intern_rec_group.canonical_types.Goals as goal
 
 pub returns-then-not-extend_at_most_one-clause-closes : goal.returns-then-not-extend_at_most_one-clause-closes

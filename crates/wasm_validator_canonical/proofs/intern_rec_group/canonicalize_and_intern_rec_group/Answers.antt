@@ -8,23 +8,23 @@ use Rattle.wasm_readers_types.specs.WasmReadersValues.declared.indices.CoreTypeI
 use Rattle.wasm_readers_types.specs.WasmReadersValues.declared.indices.TheConstants.{MAX_IDS}
 use Rattle.wasm_readers_types.specs.declared.types.SubType.{SubType}
 use Rattle.wasm_validator_type_list.specs.WasmValidatorTypeGroups.Elements.{ids_left}
-use Rattle.wasm_validator_type_list.specs.Listing.{types_in}
-use Rattle.wasm_validator_type_list.specs.Listable.{IsListable}
+use Rattle.wasm_validator_type_list.specs.ListViews.{types_in}
+use Rattle.wasm_validator_type_list.specs.GroupOrder.{IsListable}
 use Rattle.wasm_validator_type_list.specs.DefTypes.{def_types}
 use Rattle.wasm_validator_type_list.proofs.DefTypes.{length-def_types}
 use Rattle.wasm_validator_canonical.specs.Groups.{closes, AreValid, with_written}
 use Rattle.wasm_validator_canonical.specs.Indices.{numbers}
-use Rattle.wasm_validator_canonical.specs.Told.{counted_first, FitsFirst}
+use Rattle.wasm_validator_canonical.specs.GroupFaults.{counted_first, FitsFirst}
 use Rattle.wasm_validator_canonical.specs.Refusals.{rec_without_gc}
-use Rattle.wasm_validator_canonical.specs.Told.{ToldOfWritten, written}
+use Rattle.wasm_validator_canonical.specs.GroupFaults.{ToldOfWritten, written}
 use Rattle.wasm_validator_canonical.proofs.NewIds.{numbers_below, below_limit}
-use Rattle.wasm_validator_canonical.proofs.Listable.{closing_listable, closing_members}
+use Rattle.wasm_validator_canonical.proofs.ListableGroups.{closing_listable, closing_members}
 use Rattle.wasm_validator_canonical.proofs.AddedGroups.{adds_canonical, same_standing, none_added, denies_adds}
 use Rattle.wasm_validator_canonical.proofs.DepthsOfIds.{interned_there}
 use Rattle.wasm_validator_canonical.proofs.KeptDepths.{earlier_both, interned_fits, interned_earlier}
 use Rattle.wasm_validator_canonical.proofs.OwnIds.{own_grows, own_new}
-use Rattle.wasm_validator_canonical.proofs.NothingAdded.{first_same, fits_first, none_open, none_full}
-use Rattle.wasm_validator_canonical.proofs.Told.{content_says, same_refusal, invalid_tells}
+use Rattle.wasm_validator_canonical.proofs.UnaddedGroups.{first_same, fits_first, none_open, none_full}
+use Rattle.wasm_validator_canonical.proofs.GroupRefusals.{content_says, same_refusal, invalid_tells}
 use Rattle.wasm_validator_canonical.proofs.intern_rec_group.canonicalize_and_intern_rec_group.Goals as goal
 
 pub returns-then-types-counted-clause-added : goal.returns-then-types-counted-clause-added

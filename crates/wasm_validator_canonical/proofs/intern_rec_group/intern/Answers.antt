@@ -3,10 +3,10 @@ use Rattle.std.proofs.lemmas.Option.{slice_get_within}
 use Rattle.wasm_spec_rules.specs.FeatureFlags.{features_of}
 use Rattle.wasm_validator_type_list.specs.WasmValidatorTypeGroups.Elements.{numbers_from, ids_left}
 use Rattle.wasm_validator_type_list.specs.WasmValidatorTypeGroups.Groups.{first_of}
-use Rattle.wasm_validator_type_list.specs.Interned.{AreOnce}
-use Rattle.wasm_validator_canonical.proofs.Checked.{checked, refused, nothing_interned}
-use Rattle.wasm_validator_canonical.proofs.Interning.{there, interned_under}
-use Rattle.wasm_validator_canonical.proofs.Told.{new_told, full_tells, full_place}
+use Rattle.wasm_validator_type_list.specs.GroupInterning.{AreOnce}
+use Rattle.wasm_validator_canonical.proofs.CheckedGroups.{checked, refused, nothing_interned}
+use Rattle.wasm_validator_canonical.proofs.InternedIds.{there, interned_under}
+use Rattle.wasm_validator_canonical.proofs.GroupRefusals.{new_told, full_tells, full_place}
 use Rattle.wasm_validator_canonical.proofs.intern_rec_group.intern.Goals as goal
 
 pub check_if_new-requires : goal.check_if_new-requires

@@ -1,8 +1,8 @@
 use Rattle.std.proofs.Common.{ℕ, ◌≡◌, ◌<◌, length, below_more, refl, subst, arith}
 use Rattle.wasm_spec.specs.GroupRules.{IsValidType}
 use Rattle.wasm_spec_rules.specs.FeatureFlags.{features_of}
-use Rattle.wasm_validator_type_list.specs.Declares.{declares}
-use Rattle.wasm_validator_type_list.specs.Listing.{types_in}
+use Rattle.wasm_validator_type_list.specs.DeclarationsById.{declares}
+use Rattle.wasm_validator_type_list.specs.ListViews.{types_in}
 use Rattle.wasm_validator_canonical.proofs.ValidLists.{all_keep, one_breaks}
 use Rattle.wasm_validator_canonical.proofs.valid_lists.types_are_valid.Goals as goal
 

@@ -3,9 +3,9 @@ use Rattle.wasm_validator_resources.specs.WasmSpecRules.FeatureFlags.{features_o
 use Rattle.wasm_readers_types.specs.SeenExterns.{table_of, global_of, extern_of}
 use Rattle.wasm_validator_checks.specs.ModuleTypes.{module_types}
 use Rattle.wasm_validator_checks.specs.Items.{is_ref_in_range, is_val_in_range, is_valid_extern}
-use Rattle.wasm_validator_checks.proofs.Listed.{length_module_types}
-use Rattle.wasm_validator_checks.specs.Held.{IsTyped}
-use Rattle.wasm_validator_checks.proofs.Checked.{table_inside, global_inside, extern_typed}
+use Rattle.wasm_validator_checks.proofs.ListedTypes.{length_module_types}
+use Rattle.wasm_validator_checks.specs.ModuleTypeIds.{IsTyped}
+use Rattle.wasm_validator_checks.proofs.AcceptedItems.{table_inside, global_inside, extern_typed}
 use Rattle.wasm_validator_checks.proofs.entities.listed_type_ref.Goals as goal
 
 pub listed_table-requires-clause-in_range : goal.listed_table-requires-clause-in_range

@@ -1,5 +1,5 @@
 use Rattle.wasm_validator_checks.proofs.laws.functions_are_decided.Goals as goal
-use Rattle.wasm_validator_checks.proofs.Decided as decided
+use Rattle.wasm_validator_checks.proofs.ItemTests as decided
 
 pub returns-clause-functions : goal.returns-clause-functions
 returns-clause-functions c = decided.functions_are_decided

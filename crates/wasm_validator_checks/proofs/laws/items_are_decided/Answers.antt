@@ -1,4 +1,4 @@
-use Rattle.wasm_validator_checks.proofs.Decided.{tables_are_decided, defined_tables_are_decided, memories_are_decided, tags_are_decided, globals_are_decided, externs_are_decided}
+use Rattle.wasm_validator_checks.proofs.ItemTests.{tables_are_decided, defined_tables_are_decided, memories_are_decided, tags_are_decided, globals_are_decided, externs_are_decided}
 use Rattle.wasm_validator_checks.proofs.laws.items_are_decided.Goals as goal
 
 pub returns-clause-tables : goal.returns-clause-tables

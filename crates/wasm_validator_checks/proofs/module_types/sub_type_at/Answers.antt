@@ -1,4 +1,4 @@
-use Rattle.wasm_validator_checks.proofs.Listed.{known_listed, sub_type_found, sub_type_shared, sub_type_arity}
+use Rattle.wasm_validator_checks.proofs.ListedTypes.{known_listed, sub_type_found, sub_type_shared, sub_type_arity}
 use Rattle.wasm_validator_checks.proofs.module_types.sub_type_at.Goals as goal
 
 pub index-requires : goal.index-requires

@@ -1,22 +1,22 @@
 use Rattle.std.proofs.Common.{◌≡◌, ◌<◌, ◌∙◌, sym, ap, subst, ℕ, List, Some, None, false, length, arith, rules}
 use Rattle.wasm_readers.specs.WasmReadersBytes.Reader.{position_in, rest}
-use Rattle.wasm_readers.specs.Written.{written}
+use Rattle.wasm_readers.specs.WrittenIndices.{written}
 use Rattle.wasm_readers.specs.WasmReadersErrors.WasmReadersFeatures.declared.features.WasmFeatures.{WasmFeatures}
 use Rattle.wasm_operators.specs.Instructions.{instruction_at}
 use Rattle.wasm_operators.specs.Maps.{map_instruction}
 use Rattle.wasm_operators.specs.SeenOperators.{operator_of}
-use Rattle.wasm_operators.proofs.Skipping.{shorter}
-use Rattle.wasm_operator_validator.specs.WasmOperatorSteps.WasmSpecRules.FeatureFlags.{features_of}
-use Rattle.wasm_operator_validator.specs.WasmOperatorSteps.Served.{served}
-use Rattle.wasm_operator_validator.specs.WasmOperatorSteps.Steps.{is_finished}
+use Rattle.wasm_operators.proofs.ExpressionEnds.{shorter}
+use Rattle.wasm_typing_validator.specs.WasmSpecSteps.WasmSpecRules.FeatureFlags.{features_of}
+use Rattle.wasm_typing_validator.specs.WasmSpecSteps.ServedInstructions.{served}
+use Rattle.wasm_typing_validator.specs.WasmSpecSteps.Steps.{is_finished}
 use Rattle.wasm_validator_resources.specs.Answers.{world, written_index}
-use Rattle.wasm_operator_validator.specs.Typed.{typed_state}
+use Rattle.wasm_typing_validator.specs.BodyTyping.{typed_state}
 use Rattle.wasm_validator_references.specs.Notes.{noting}
 use Rattle.wasm_validator_constants.specs.Constants.{constant_step, constant_from, constant_names}
-use Rattle.wasm_operator_validator.specs.Checked.{within}
-use Rattle.wasm_operator_validator.proofs.Written.{is_written, by_numbers, none_served}
+use Rattle.wasm_typing_validator.specs.TypedInstructions.{within}
+use Rattle.wasm_typing_validator.proofs.WrittenInstructions.{is_written, by_numbers, none_served}
 use Rattle.wasm_validator_constants.proofs.Machine.{go_one, refused_here, unserved_here, names_of_all, all_of}
-use Rattle.wasm_operator_validator.proofs.Kept.{kept_around, kept_on, same_kept, ends}
+use Rattle.wasm_typing_validator.proofs.CodeSurroundings.{kept_around, kept_on, same_kept, ends}
 use Rattle.wasm_validator_constants.proofs.expressions.check_constant_expression.Goals as goal
 
 pub check_constant_operator-requires-clause-written : goal.check_constant_operator-requires-clause-written

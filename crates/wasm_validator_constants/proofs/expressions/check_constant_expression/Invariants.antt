@@ -1,11 +1,11 @@
 use Rattle.std.proofs.Common.{◌≡◌, ◌≤◌, ℕ, false, length}
 use Rattle.wasm_readers.specs.WasmReadersBytes.Reader.{SameInput, position_in, rest}
 use Rattle.wasm_validator_resources.specs.Answers.{world}
-use Rattle.wasm_operator_validator.specs.WasmOperatorStacks.Seen.{Kept}
-use Rattle.wasm_operator_validator.specs.Typed.{typed_state}
+use Rattle.wasm_typing_validator.specs.WasmTypingStacks.BodyStacks.{Kept}
+use Rattle.wasm_typing_validator.specs.BodyTyping.{typed_state}
 use Rattle.wasm_validator_references.specs.Notes.{noting}
 use Rattle.wasm_validator_constants.specs.Constants.{typed_from, constant_from, named_from, constant_names}
-use Rattle.wasm_operator_validator.specs.Checked.{within}
+use Rattle.wasm_typing_validator.specs.TypedInstructions.{within}
 use Rattle.wasm_validator_constants.proofs.expressions.check_constant_expression.Given as goal
 
 abbrev pub invariant-operators : goal.invariant-operators

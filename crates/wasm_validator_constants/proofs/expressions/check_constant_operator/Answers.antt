@@ -2,14 +2,14 @@ use Rattle.std.proofs.Common.{◌≡◌, false, true}
 use Rattle.wasm_validator_resources.specs.WasmSpecRules.FeatureFlags.{features_of}
 use Rattle.wasm_operators.specs.Maps.{map_instruction}
 use Rattle.wasm_operators.specs.SeenOperators.{operator_of}
-use Rattle.wasm_operator_validator.specs.WasmOperatorSteps.ConstantExpressions.{is_constant}
-use Rattle.wasm_operator_validator.specs.WasmOperatorSteps.Steps.{step_in}
+use Rattle.wasm_typing_validator.specs.WasmSpecSteps.ConstantExpressions.{is_constant}
+use Rattle.wasm_typing_validator.specs.WasmSpecSteps.Steps.{step_in}
 use Rattle.wasm_validator_resources.specs.Answers.{world, written_index}
-use Rattle.wasm_operator_validator.specs.Typed.{typed_state}
+use Rattle.wasm_typing_validator.specs.BodyTyping.{typed_state}
 use Rattle.wasm_validator_constants.specs.Constants.{constant_step}
-use Rattle.wasm_operator_validator.specs.WasmOperatorSteps.ConstantRules.{is_readable}
-use Rattle.wasm_operator_validator.specs.Checked.{within}
-use Rattle.wasm_validator_constants.proofs.Stepping.{no_constant, no_global, goes, refused_at, taken, not_taken}
+use Rattle.wasm_typing_validator.specs.WasmSpecSteps.ConstantRules.{is_readable}
+use Rattle.wasm_typing_validator.specs.TypedInstructions.{within}
+use Rattle.wasm_validator_constants.proofs.InstructionSteps.{no_constant, no_global, goes, refused_at, taken, not_taken}
 use Rattle.wasm_validator_constants.proofs.expressions.check_constant_operator.Goals as goal
 
 pub returns-then-not-is_constant-clause-took : goal.returns-then-not-is_constant-clause-took

@@ -1,5 +1,5 @@
 use Rattle.wasm_readers.specs.WasmReadersBytes.Reader.{rest}
-use Rattle.wasm_validator_constants.proofs.ItemsWritten.{ends}
+use Rattle.wasm_validator_constants.proofs.ItemBytes.{ends}
 use Rattle.wasm_validator_constants.proofs.item_bytes.next_end.Goals as goal
 
 pub returns-then-branch-eq11-clause-some : goal.returns-then-branch-eq11-clause-some

@@ -1,5 +1,5 @@
 use Rattle.wasm_readers.specs.WasmReadersBytes.Reader.{rest}
-use Rattle.wasm_validator_constants.proofs.ItemsWritten.{function_written}
+use Rattle.wasm_validator_constants.proofs.ItemBytes.{function_written}
 use Rattle.wasm_validator_constants.proofs.item_bytes.next_function.Goals as goal
 
 pub returns-clause-some : goal.returns-clause-some

@@ -1,4 +1,4 @@
-use Rattle.wasm_validator_constants.proofs.Finding.{finds, are_found}
+use Rattle.wasm_validator_constants.proofs.ExpressionBytes.{finds, are_found}
 use Rattle.wasm_validator_constants.proofs.laws.constants_are_lists_of_instructions.Goals as goal
 
 pub returns-clause-found : goal.returns-clause-found

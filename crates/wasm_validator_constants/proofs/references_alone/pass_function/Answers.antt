@@ -3,8 +3,8 @@ use Rattle.wasm_validator_resources.specs.WasmSpecRules.FeatureFlags.{features_o
 use Rattle.wasm_readers.specs.WasmReadersBytes.Reader.{rest}
 use Rattle.wasm_validator_resources.specs.WasmReadersTypes.WasmReadersValues.SeenValues.{val_of}
 use Rattle.wasm_validator_constants.specs.Items.{IsItem}
-use Rattle.wasm_validator_constants.proofs.ItemsNoted.{one_noted}
-use Rattle.wasm_validator_constants.proofs.ItemsTyped.{function_item, function_names}
+use Rattle.wasm_validator_constants.proofs.ItemNotes.{one_noted}
+use Rattle.wasm_validator_constants.proofs.ItemTypes.{function_item, function_names}
 use Rattle.wasm_validator_constants.proofs.references_alone.pass_function.Goals as goal
 
 pub returns-clause-past : goal.returns-clause-past

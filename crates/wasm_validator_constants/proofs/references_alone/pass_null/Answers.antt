@@ -3,7 +3,7 @@ use Rattle.wasm_validator_resources.specs.WasmSpecRules.FeatureFlags.{features_o
 use Rattle.wasm_readers.specs.WasmReadersBytes.Reader.{rest}
 use Rattle.wasm_validator_resources.specs.WasmReadersTypes.WasmReadersValues.SeenValues.{val_of}
 use Rattle.wasm_validator_constants.specs.Items.{IsItem}
-use Rattle.wasm_validator_constants.proofs.ItemsTyped.{null_item, null_names}
+use Rattle.wasm_validator_constants.proofs.ItemTypes.{null_item, null_names}
 use Rattle.wasm_validator_constants.proofs.references_alone.pass_null.Goals as goal
 
 pub returns-else-not-knows_null-clause-past : goal.returns-else-not-knows_null-clause-past

@@ -1,7 +1,7 @@
 use Rattle.std.proofs.Common.{sym, arith}
 use Rattle.wasm_validator_checks.specs.ModuleTypes.{module_types}
-use Rattle.wasm_validator_checks.proofs.Listed.{length_module_types}
-use Rattle.wasm_validator_checks.proofs.Checked.{function_inside}
+use Rattle.wasm_validator_checks.proofs.ListedTypes.{length_module_types}
+use Rattle.wasm_validator_checks.proofs.AcceptedItems.{function_inside}
 use Rattle.wasm_validator_core.proofs.items.add_defined_function.Goals as goal
 
 pub place_function-requires : goal.place_function-requires

@@ -1,8 +1,8 @@
 use Rattle.std.proofs.Common.{sym, arith}
 use Rattle.wasm_spec_rules.specs.FeatureFlags.{features_of}
 use Rattle.wasm_validator_checks.specs.ModuleTypes.{module_types}
-use Rattle.wasm_validator_checks.proofs.Listed.{length_module_types}
-use Rattle.wasm_validator_checks.proofs.Checked.{tag_inside}
+use Rattle.wasm_validator_checks.proofs.ListedTypes.{length_module_types}
+use Rattle.wasm_validator_checks.proofs.AcceptedItems.{tag_inside}
 use Rattle.wasm_validator_core.proofs.items.add_defined_tag.Goals as goal
 
 pub place_tag-requires : goal.place_tag-requires

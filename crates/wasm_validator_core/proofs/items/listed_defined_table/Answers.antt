@@ -3,8 +3,8 @@ use Rattle.wasm_spec_rules.specs.FeatureFlags.{features_of}
 use Rattle.wasm_readers_types.specs.SeenExterns.{table_of}
 use Rattle.wasm_validator_checks.specs.ModuleTypes.{module_types}
 use Rattle.wasm_validator_checks.specs.Items.{is_ref_in_range}
-use Rattle.wasm_validator_checks.proofs.Listed.{length_module_types}
-use Rattle.wasm_validator_checks.proofs.Checked.{defined_table_inside}
+use Rattle.wasm_validator_checks.proofs.ListedTypes.{length_module_types}
+use Rattle.wasm_validator_checks.proofs.AcceptedItems.{defined_table_inside}
 use Rattle.wasm_validator_core.proofs.items.listed_defined_table.Goals as goal
 
 pub listed_table-requires-clause-in_range : goal.listed_table-requires-clause-in_range

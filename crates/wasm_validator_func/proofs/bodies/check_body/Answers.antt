@@ -1,12 +1,12 @@
 use Rattle.std.proofs.Common.{◌≡◌, ◌==◌, ap, subst, Some, Err, true, false, length}
 use Rattle.wasm_readers_bytes.specs.Reader.{rest}
-use Rattle.wasm_parser.specs.Seen.{body_of}
+use Rattle.wasm_parser.specs.PayloadViews.{body_of}
 use Rattle.wasm_validator_resources.specs.Answers.{world}
-use Rattle.wasm_operator_validator.specs.Typed.{typed_state, locals_in}
-use Rattle.wasm_operator_validator.specs.Checked.{within}
+use Rattle.wasm_typing_validator.specs.BodyTyping.{typed_state, locals_in}
+use Rattle.wasm_typing_validator.specs.TypedInstructions.{within}
 use Rattle.wasm_validator_func.specs.Bodies.{instructions_from}
-use Rattle.wasm_validator_func.specs.Validated.{body_in, Validates}
-use Rattle.wasm_validator_func.proofs.Whole.{no_locals, some_locals, stopped, ended, goes_past}
+use Rattle.wasm_validator_func.specs.BodyValidation.{body_in, Validates}
+use Rattle.wasm_validator_func.proofs.WholeBodies.{no_locals, some_locals, stopped, ended, goes_past}
 use Rattle.wasm_validator_func.proofs.bodies.check_body.Goals as goal
 
 pub returns-in-Err-clause-took : goal.returns-in-Err-clause-took

@@ -1,17 +1,17 @@
 use Rattle.std.proofs.Common.{◌≡◌, ◌<◌, ◌∙◌, ◌||◌, ap, subst, Some, Ok, Err, false, length, arith, rules}
 use Rattle.wasm_readers_bytes.specs.Reader.{position_in, rest}
-use Rattle.wasm_operators.proofs.Skipping.{shorter}
-use Rattle.wasm_operator_steps.specs.Steps.{is_finished}
-use Rattle.wasm_operator_validator.specs.WasmOperatorFast.Fused.{step_at}
+use Rattle.wasm_operators.proofs.ExpressionEnds.{shorter}
+use Rattle.wasm_spec_steps.specs.Steps.{is_finished}
+use Rattle.wasm_typing_validator.specs.WasmTypingFast.InstructionSteps.{step_at}
 use Rattle.wasm_validator_resources.specs.Answers.{world}
-use Rattle.wasm_operator_validator.specs.Typed.{typed_state}
-use Rattle.wasm_operator_validator.specs.Checked.{within}
-use Rattle.wasm_operator_validator.specs.Reads.{ReadsStep}
-use Rattle.wasm_operator_validator.proofs.Kept.{kept_around, kept_on, same_kept}
-use Rattle.wasm_operator_validator.proofs.Reading.{from_the_same}
+use Rattle.wasm_typing_validator.specs.BodyTyping.{typed_state}
+use Rattle.wasm_typing_validator.specs.TypedInstructions.{within}
+use Rattle.wasm_typing_validator.specs.StepsFromBytes.{ReadsStep}
+use Rattle.wasm_typing_validator.proofs.CodeSurroundings.{kept_around, kept_on, same_kept}
+use Rattle.wasm_typing_validator.proofs.ByteSteps.{from_the_same}
 use Rattle.wasm_validator_func.specs.Bodies.{instructions_from}
 use Rattle.wasm_validator_func.proofs.Machine.{all_of}
-use Rattle.wasm_validator_func.proofs.Bytes.{one_more, stopped_here}
+use Rattle.wasm_validator_func.proofs.ByteSteps.{one_more, stopped_here}
 use Rattle.wasm_validator_func.proofs.bodies.read_instructions.Goals as goal
 
 pub operators-init : goal.operators-init

@@ -1,9 +1,9 @@
 use Rattle.std.proofs.Common.{◌≡◌, ◌≤◌, ℕ, false, length}
 use Rattle.wasm_readers_bytes.specs.Reader.{SameInput, position_in, rest}
 use Rattle.wasm_validator_resources.specs.Answers.{world}
-use Rattle.wasm_operator_validator.specs.WasmOperatorStacks.Seen.{Kept}
-use Rattle.wasm_operator_validator.specs.Typed.{typed_state}
-use Rattle.wasm_operator_validator.specs.Checked.{within}
+use Rattle.wasm_typing_validator.specs.WasmTypingStacks.BodyStacks.{Kept}
+use Rattle.wasm_typing_validator.specs.BodyTyping.{typed_state}
+use Rattle.wasm_typing_validator.specs.TypedInstructions.{within}
 use Rattle.wasm_validator_func.specs.Bodies.{typed_from, instructions_from}
 use Rattle.wasm_validator_func.proofs.bodies.read_instructions.Given as goal
 

@@ -1,8 +1,8 @@
 use Rattle.std.proofs.Common.{◌≡◌, ap, Some, Err}
 use Rattle.wasm_spec_rules.specs.FeatureFlags.{features_of}
-use Rattle.wasm_parser.specs.Seen.{body_of}
-use Rattle.wasm_operator_validator.specs.Typed.{typed_state, locals_in}
-use Rattle.wasm_validator_func.specs.Validated.{body_in, Validates}
+use Rattle.wasm_parser.specs.PayloadViews.{body_of}
+use Rattle.wasm_typing_validator.specs.BodyTyping.{typed_state, locals_in}
+use Rattle.wasm_validator_func.specs.BodyValidation.{body_in, Validates}
 use Rattle.wasm_validator_func.proofs.Functions.{accepted, body_refused}
 use Rattle.wasm_validator_func.proofs.func_validator.validate_body.Goals as goal
 

@@ -1,4 +1,4 @@
-use Rattle.wasm_validator_func.proofs.Finding.{finds, are_found}
+use Rattle.wasm_validator_func.proofs.BodyBytes.{finds, are_found}
 use Rattle.wasm_validator_func.proofs.laws.bodies_are_declarations_and_instructions.Goals as goal
 
 pub returns-clause-found : goal.returns-clause-found

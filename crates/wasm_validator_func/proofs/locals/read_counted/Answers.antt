@@ -1,10 +1,10 @@
 use Rattle.std.proofs.Common.{◌≡◌, ◌<◌, ◌∙◌, ◌||◌, ap, subst, Some, None, false, arith, rules}
 use Rattle.wasm_spec_rules.specs.FeatureFlags.{features_of}
 use Rattle.wasm_readers_bytes.specs.Reader.{position_in, rest}
-use Rattle.wasm_operator_validator.specs.Typed.{locals_in}
+use Rattle.wasm_typing_validator.specs.BodyTyping.{locals_in}
 use Rattle.wasm_validator_func.specs.Bodies.{more_locals, declared_from}
-use Rattle.wasm_validator_func.specs.Validated.{declaration_of, declared_in}
-use Rattle.wasm_validator_func.proofs.Declaring.{goes_on, one_more, one_refused, ends}
+use Rattle.wasm_validator_func.specs.BodyValidation.{declaration_of, declared_in}
+use Rattle.wasm_validator_func.proofs.LocalDeclarations.{goes_on, one_more, one_refused, ends}
 use Rattle.wasm_validator_func.proofs.locals.read_counted.Goals as goal
 
 pub declarations-preserved : goal.declarations-preserved

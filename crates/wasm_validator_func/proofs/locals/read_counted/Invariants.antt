@@ -1,9 +1,9 @@
 use Rattle.std.proofs.Common.{◌≡◌, ◌≤◌, false}
 use Rattle.wasm_spec_rules.specs.FeatureFlags.{features_of}
 use Rattle.wasm_readers_bytes.specs.Reader.{SameInput, position_in, rest}
-use Rattle.wasm_operator_validator.specs.Typed.{typed_state, locals_in}
+use Rattle.wasm_typing_validator.specs.BodyTyping.{typed_state, locals_in}
 use Rattle.wasm_validator_func.specs.Bodies.{declared_from}
-use Rattle.wasm_validator_func.specs.Validated.{Goes}
+use Rattle.wasm_validator_func.specs.BodyValidation.{Goes}
 use Rattle.wasm_validator_func.proofs.locals.read_counted.Given as goal
 
 abbrev pub invariant-declarations : goal.invariant-declarations

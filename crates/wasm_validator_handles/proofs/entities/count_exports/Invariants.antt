@@ -1,5 +1,5 @@
 use Rattle.std.proofs.Common.{◌≡◌, ◌≤◌, ◌+◌, ◌-◌, ◌^◌, length}
-use Rattle.wasm_validator.specs.WasmValidatorTypes.Left.{exports_left}
+use Rattle.wasm_validator.specs.WasmValidatorTypes.IteratorItems.{exports_left}
 use Rattle.wasm_validator_handles.specs.Entities.{counted}
 use Rattle.wasm_validator_handles.proofs.entities.count_exports.Given as goal
 

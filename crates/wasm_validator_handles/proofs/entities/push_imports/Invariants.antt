@@ -1,5 +1,5 @@
 use Rattle.std.proofs.Common.{◌≡◌, ◌++◌, length}
-use Rattle.wasm_validator.specs.WasmValidatorTypes.Left.{imports_left}
+use Rattle.wasm_validator.specs.WasmValidatorTypes.IteratorItems.{imports_left}
 use Rattle.wasm_validator_handles.specs.Entities.{externs_behind, names_of}
 use Rattle.wasm_validator_handles.proofs.entities.push_imports.Given as goal
 

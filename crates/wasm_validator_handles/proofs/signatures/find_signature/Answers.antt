@@ -1,9 +1,9 @@
 use Rattle.std.proofs.Common.{◌≡◌, sym, ap, ◌∙◌, ◌<◌, ℕ, true, false, length, arith}
 use Rattle.std.specs.Option.{option_map}
-use Rattle.wasm_validator.specs.WasmValidatorTypes.WasmValidatorTypeList.Declares.{declares}
-use Rattle.wasm_validator.specs.WasmValidatorTypes.WasmValidatorTypeList.Listing.{types_in}
+use Rattle.wasm_validator.specs.WasmValidatorTypes.WasmValidatorTypeList.DeclarationsById.{declares}
+use Rattle.wasm_validator.specs.WasmValidatorTypes.WasmValidatorTypeList.ListViews.{types_in}
 use Rattle.wasm_validator_handles.specs.Signatures.{func_in, signature_by_ids}
-use Rattle.wasm_validator_handles.proofs.Signed.{found, none_found}
+use Rattle.wasm_validator_handles.proofs.FunctionSignatures.{found, none_found}
 use Rattle.wasm_validator_handles.proofs.signatures.find_signature.Goals as goal
 
 pub returns-then-holds_id-clause-found : goal.returns-then-holds_id-clause-found

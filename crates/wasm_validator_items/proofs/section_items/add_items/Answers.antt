@@ -2,9 +2,9 @@ use Rattle.std.proofs.Common.{subst, ℕ, ◌+◌, leb, List, arith}
 use Rattle.wasm_readers.specs.SectionsSeen.{count_of, bytes_of}
 use Rattle.wasm_readers.specs.WasmReadersBytes.Reader.{rest}
 use Rattle.wasm_validator_core.specs.Answers.{IsNowhere}
-use Rattle.wasm_validator_items.specs.Adding.{steps_of}
+use Rattle.wasm_validator_items.specs.ItemSteps.{steps_of}
 use Rattle.wasm_validator_items.specs.Machine.{items_from}
-use Rattle.wasm_validator_items.proofs.Adding.{nowhere_here, within_nowhere, where_handed}
+use Rattle.wasm_validator_items.proofs.SectionLoop.{nowhere_here, within_nowhere, where_handed}
 use Rattle.wasm_validator_items.proofs.section_items.add_items.Goals as goal
 
 pub returns-in_err-add_next-clause-added : goal.returns-in_err-add_next-clause-added

@@ -2,7 +2,7 @@ use Rattle.std.proofs.Common.{◌≡◌, ◌+◌, ◌≤◌, length}
 use Rattle.wasm_readers.specs.SectionsSeen.{count_of, bytes_of, section_start, section_end}
 use Rattle.wasm_readers.specs.WasmReadersBytes.Reader.{input, original, position_in, rest}
 use Rattle.wasm_validator_items.specs.Machine.{items_from}
-use Rattle.wasm_validator_items.proofs.Adding.{ToldOfAll}
+use Rattle.wasm_validator_items.proofs.SectionLoop.{ToldOfAll}
 use Rattle.wasm_validator_items.proofs.section_items.add_items.Given as goal
 
 abbrev pub invariant-items : goal.invariant-items

@@ -1,6 +1,6 @@
 use Rattle.std.proofs.Common.{◌+◌, ◌≤◌, ◌∙◌, sym, ap, ℕ, List, length, arith}
 use Rattle.wasm_validator_segments.specs.WasmValidatorReferences.References.{marked}
-use Rattle.wasm_validator_items.proofs.Named.{table_named}
+use Rattle.wasm_validator_items.proofs.NamedFunctions.{table_named}
 use Rattle.wasm_spec_rules.specs.FeatureFlags.{features_of}
 use Rattle.wasm_readers.specs.WasmReadersBytes.Reader.{input, original, position_in, rest}
 use Rattle.wasm_readers.specs.Tables.{head_of}

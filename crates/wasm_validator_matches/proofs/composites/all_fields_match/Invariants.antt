@@ -1,6 +1,6 @@
 use Rattle.std.proofs.Common.{ℕ, ◌<◌, get_or}
 use Rattle.wasm_readers_types.specs.WasmReadersValues.declared.values.FieldType.{FieldType}
-use Rattle.wasm_validator_type_list.specs.Grouped.{FieldsMatch}
+use Rattle.wasm_validator_type_list.specs.GroupTypes.{FieldsMatch}
 use Rattle.wasm_validator_matches.proofs.composites.all_fields_match.Given as goal
 
 abbrev pub invariant-fields : goal.invariant-fields

@@ -1,5 +1,5 @@
-use Rattle.wasm_validator_type_list.proofs.Grouped.{fields_in}
-use Rattle.wasm_validator_type_list.proofs.Composite.{structs_match}
+use Rattle.wasm_validator_type_list.proofs.GroupMatching.{fields_in}
+use Rattle.wasm_validator_type_list.proofs.CompositeMatching.{structs_match}
 use Rattle.wasm_validator_matches.proofs.composites.inners_match.Goals as goal
 
 pub all_fields_match-requires-clause-sub : goal.all_fields_match-requires-clause-sub

@@ -1,7 +1,7 @@
 use Rattle.std.proofs.Common.{List, length}
 use Rattle.wasm_validator_modules.specs.declared.payload.Bodies.{Bodies}
 use Rattle.wasm_validator_states.specs.States.{BodyToValidate}
-use Rattle.wasm_validator_modules.specs.Given.{bodies_seen}
+use Rattle.wasm_validator_modules.specs.PayloadAnswers.{bodies_seen}
 use Rattle.wasm_validator_states.proofs.UsedLaws.{used_laws}
 use Rattle.wasm_validator_states.proofs.WholeModules.{decides_refusal, decides_whole, decides_body, stops, ends}
 use Rattle.wasm_validator_modules.proofs.payload.answer_all.Goals as goal

@@ -1,7 +1,7 @@
 use Rattle.wasm_readers_errors.specs.WasmReadersFeatures.declared.features.TheConstants.WasmFeatures.{STANDARD}
 use Rattle.std.proofs.Common.{subst}
 use Rattle.wasm_validator_states.specs.Verdict.{DecidesModule}
-use Rattle.wasm_validator_states.specs.Standing.{Standing}
+use Rattle.wasm_validator_states.specs.ValidatorStages.{Standing}
 use Rattle.wasm_validator_states.proofs.WholeModules.{decides_alone}
 use Rattle.wasm_validator_modules.proofs.payload.validate.Goals as goal
 

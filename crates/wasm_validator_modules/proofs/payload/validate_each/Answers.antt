@@ -3,7 +3,7 @@ use Rattle.std.proofs.lemmas.List.{map_push}
 use Rattle.std.proofs.lemmas.List.Elements.{All-push}
 use Rattle.wasm_validator_modules.specs.declared.payload.PendingBody.{PendingBody}
 use Rattle.wasm_validator_states.specs.Payloads.{IsBodyOfIts}
-use Rattle.wasm_validator_modules.specs.Given.{pending_seen}
+use Rattle.wasm_validator_modules.specs.PayloadAnswers.{pending_seen}
 use Rattle.wasm_validator_modules.proofs.Bodies.{refused_one, stands_by, between_in, no_items}
 use Rattle.wasm_validator_modules.proofs.payload.validate_each.Goals as goal
 

@@ -1,6 +1,6 @@
 use Rattle.std.proofs.Common.{◌≡◌, ◌++◌, map, All}
 use Rattle.wasm_validator_states.specs.Payloads.{IsBodyOfIts}
-use Rattle.wasm_validator_modules.specs.Given.{pending_seen}
+use Rattle.wasm_validator_modules.specs.PayloadAnswers.{pending_seen}
 use Rattle.wasm_validator_modules.proofs.payload.validate_each.Given as goal
 
 abbrev pub invariant-bodies : goal.invariant-bodies

@@ -2,7 +2,7 @@ use Rattle.std.proofs.Common.{◌∙◌, refl, true, get_or, slice_set, arith}
 use Rattle.std.proofs.lemmas.List.{length-set}
 use Rattle.wasm_validator_references.specs.References.{mark}
 use Rattle.wasm_validator_references.proofs.Marks.{mark_is_set}
-use Rattle.wasm_validator_references.proofs.Noting.{one_noted}
+use Rattle.wasm_validator_references.proofs.FunctionNotes.{one_noted}
 use Rattle.wasm_validator_references.proofs.flags.set_each.Goals as goal
 
 pub functions-preserved : goal.functions-preserved

@@ -4,7 +4,7 @@ use Rattle.wasm_readers_errors.specs.WasmSpec.GroupRules.{field_storage}
 use Rattle.wasm_readers_errors.specs.WasmSpec.ValueTypes.{allows_storage}
 use Rattle.wasm_spec_rules.specs.FeatureFlags.{features_of}
 use Rattle.wasm_readers_types.specs.WasmReadersValues.SeenValues.{field_of}
-use Rattle.wasm_validator_resources.specs.Told.{first_told, told_of_field}
+use Rattle.wasm_validator_resources.specs.ProposalRefusals.{first_told, told_of_field}
 use Rattle.wasm_validator_resources.proofs.composite_types.check_fields.Given as goal
 
 abbrev pub invariant-loop-field : goal.invariant-loop-field

@@ -3,7 +3,7 @@ use Rattle.std.specs.List.{list_all}
 use Rattle.wasm_readers_errors.specs.WasmSpec.ValueTypes.{allows_val}
 use Rattle.wasm_spec_rules.specs.FeatureFlags.{features_of}
 use Rattle.wasm_readers_types.specs.WasmReadersValues.SeenValues.{val_of}
-use Rattle.wasm_validator_resources.specs.Told.{first_told, told_of_val}
+use Rattle.wasm_validator_resources.specs.ProposalRefusals.{first_told, told_of_val}
 use Rattle.wasm_validator_resources.proofs.composite_types.check_value_types.Given as goal
 
 abbrev pub invariant-loop-ty : goal.invariant-loop-ty

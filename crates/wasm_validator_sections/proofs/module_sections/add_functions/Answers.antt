@@ -5,8 +5,8 @@ use Rattle.wasm_readers_errors.specs.declared.error.Counted.TheVariants as count
 use Rattle.wasm_validator_type_list.specs.DefTypes.{types_of_list}
 use Rattle.wasm_validator_items.specs.WasmValidatorCore.Items.{add_function}
 use Rattle.wasm_validator_items.specs.WasmValidatorCore.declared.limits.TheConstants.{MAX_FUNCTIONS}
-use Rattle.wasm_validator_items.proofs.Adding.{section_told}
-use Rattle.wasm_validator_sections.specs.SectionsTold.{IsNone, tells_function}
+use Rattle.wasm_validator_items.proofs.SectionLoop.{section_told}
+use Rattle.wasm_validator_sections.specs.SectionFaults.{IsNone, tells_function}
 use Rattle.wasm_validator_sections.proofs.module_sections.add_functions.Goals as goal
 
 pub returns-clause-told : goal.returns-clause-told

@@ -5,8 +5,8 @@ use Rattle.wasm_spec_rules.specs.Limits.{most_memories}
 use Rattle.wasm_readers.specs.SectionsSeen.{count_of, bytes_of, section_start, section_end}
 use Rattle.wasm_readers_errors.specs.declared.error.Counted.TheVariants as counted
 use Rattle.wasm_validator_items.specs.WasmValidatorCore.Items.{add_memory}
-use Rattle.wasm_validator_items.proofs.Adding.{section_told}
-use Rattle.wasm_validator_sections.specs.SectionsTold.{IsNone, tells_memory}
+use Rattle.wasm_validator_items.proofs.SectionLoop.{section_told}
+use Rattle.wasm_validator_sections.specs.SectionFaults.{IsNone, tells_memory}
 use Rattle.wasm_validator_sections.proofs.module_sections.add_memories.Goals as goal
 
 pub returns-clause-told : goal.returns-clause-told

@@ -1,6 +1,6 @@
 use Rattle.std.proofs.Common.{length}
 use Rattle.wasm_spec.specs.BinaryTypes.{rec_at}
-use Rattle.wasm_readers.specs.Written.{written}
+use Rattle.wasm_readers.specs.WrittenIndices.{written}
 use Rattle.wasm_readers.specs.SectionsSeen.{count_of, bytes_of, section_start, section_end}
 use Rattle.wasm_readers_errors.specs.declared.error.Counted.TheVariants as counted
 use Rattle.wasm_validator_type_list.specs.DefTypes.{types_of_list}
@@ -8,9 +8,9 @@ use Rattle.wasm_validator_types.specs.Spaces.{Spaces}
 use Rattle.wasm_validator_items.specs.WasmValidatorCore.Answers.{TypesSoFar, IsNowhere, HasValidTypes}
 use Rattle.wasm_validator_items.specs.WasmValidatorCore.Machine.{add_group}
 use Rattle.wasm_validator_items.specs.WasmValidatorCore.declared.limits.TheConstants.{MAX_TYPES}
-use Rattle.wasm_validator_items.proofs.Adding.{section_told}
-use Rattle.wasm_validator_sections.specs.SectionsTold.{tells_group}
-use Rattle.wasm_validator_sections.proofs.GroupsGrow.{read_group_back}
+use Rattle.wasm_validator_items.proofs.SectionLoop.{section_told}
+use Rattle.wasm_validator_sections.specs.SectionFaults.{tells_group}
+use Rattle.wasm_validator_sections.proofs.GroupGrowth.{read_group_back}
 use Rattle.wasm_validator_sections.proofs.module_sections.add_types.Goals as goal
 
 pub add_items-requires-clause-back : goal.add_items-requires-clause-back

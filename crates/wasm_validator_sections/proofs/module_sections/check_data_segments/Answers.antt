@@ -11,11 +11,11 @@ use Rattle.wasm_validator_items.specs.Entries.{add_data}
 use Rattle.wasm_validator_items.specs.WasmValidatorCoreResources.IndexContexts.{id_of}
 use Rattle.wasm_validator_items.specs.WasmValidatorCoreResources.ListContexts.{list_declares}
 use Rattle.std.specs.Prelude.{⊤}
-use Rattle.wasm_validator_items.specs.Adding.{TellsSteps}
+use Rattle.wasm_validator_items.specs.ItemSteps.{TellsSteps}
 use Rattle.wasm_validator_items.specs.WasmValidatorCore.Answers.{Adds}
 use Rattle.wasm_validator_items.specs.WasmValidatorCore.declared.error.Error.{Error}
 use Rattle.wasm_validator_sections.specs.Machine.{data_items}
-use Rattle.wasm_validator_items.proofs.Adding.{count_alone_told}
+use Rattle.wasm_validator_items.proofs.SectionLoop.{count_alone_told}
 use Rattle.wasm_validator_items.proofs.Singles.{items_are_added}
 use Rattle.wasm_validator_sections.proofs.ConstantSections.{constants_added}
 use Rattle.wasm_validator_sections.proofs.module_sections.check_data_segments.Goals as goal

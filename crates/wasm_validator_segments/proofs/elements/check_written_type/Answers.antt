@@ -1,6 +1,6 @@
 use Rattle.wasm_readers.specs.WasmReadersBytes.Reader.{rest}
 use Rattle.wasm_readers_types.specs.WasmReadersValues.SeenValues.{ref_of}
-use Rattle.wasm_validator_segments.proofs.Written.{type_written}
+use Rattle.wasm_validator_segments.proofs.WrittenTypes.{type_written}
 use Rattle.wasm_validator_segments.proofs.elements.check_written_type.Goals as goal
 
 pub check_value_type-requires : goal.check_value_type-requires

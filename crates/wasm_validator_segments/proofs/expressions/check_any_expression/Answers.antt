@@ -1,6 +1,6 @@
 use Rattle.wasm_readers_types.specs.WasmReadersValues.SeenValues.{val_of}
 use Rattle.wasm_readers.specs.WasmReadersBytes.Reader.{rest}
-use Rattle.wasm_validator_constants.specs.Typed.{typed_state}
+use Rattle.wasm_validator_constants.specs.BodyTyping.{typed_state}
 use Rattle.wasm_validator_segments.proofs.Typing.{goes_past, goes_nowhere, names_noted}
 use Rattle.wasm_validator_segments.proofs.expressions.check_any_expression.Goals as goal
 

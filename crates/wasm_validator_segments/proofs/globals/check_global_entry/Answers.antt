@@ -4,7 +4,7 @@ use Rattle.wasm_readers.specs.WasmReadersBytes.Reader.{rest}
 use Rattle.wasm_readers_types.specs.SeenExterns.{global_of}
 use Rattle.wasm_readers_types.specs.WasmReadersValues.SeenValues.{val_of}
 use Rattle.wasm_validator_constants.specs.WasmValidatorReferences.Notes.{noting}
-use Rattle.wasm_validator_segments.proofs.Read.{global_named}
+use Rattle.wasm_validator_segments.proofs.PartReads.{global_named}
 use Rattle.wasm_validator_segments.proofs.globals.check_global_entry.Goals as goal
 
 pub returns-clause-noted : goal.returns-clause-noted

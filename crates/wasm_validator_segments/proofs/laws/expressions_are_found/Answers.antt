@@ -1,4 +1,4 @@
-use Rattle.wasm_validator_segments.proofs.Finding.{are_found}
+use Rattle.wasm_validator_segments.proofs.ConstantBytes.{are_found}
 use Rattle.wasm_validator_segments.proofs.laws.expressions_are_found.Goals as goal
 
 pub returns : goal.returns

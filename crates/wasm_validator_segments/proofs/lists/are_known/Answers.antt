@@ -1,5 +1,5 @@
 use Rattle.std.proofs.Common.{◌∙◌, sym, ap, is_some, slice_get, arith}
-use Rattle.wasm_validator_segments.proofs.Known.{known, name_themselves}
+use Rattle.wasm_validator_segments.proofs.FunctionBytes.{known, name_themselves}
 use Rattle.wasm_validator_segments.proofs.lists.are_known.Goals as goal
 
 pub returns-clause-there : goal.returns-clause-there

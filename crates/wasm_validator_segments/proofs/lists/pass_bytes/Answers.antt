@@ -1,8 +1,8 @@
 use Rattle.std.proofs.Common.{◌∙◌, sym, ap, subst, ℕ, List, Some}
 use Rattle.wasm_readers.specs.WasmReadersBytes.Reader.{rest}
-use Rattle.wasm_validator_segments.specs.Known.{AreFunctions, NameThemselves}
+use Rattle.wasm_validator_segments.specs.FunctionIndices.{AreFunctions, NameThemselves}
 use Rattle.wasm_validator_constants.specs.WasmValidatorReferences.Notes.{noting}
-use Rattle.wasm_validator_segments.proofs.Known.{all_passed, all_named}
+use Rattle.wasm_validator_segments.proofs.FunctionBytes.{all_passed, all_named}
 use Rattle.wasm_validator_segments.proofs.lists.pass_bytes.Goals as goal
 
 pub returns-in_ok-note_bytes-in-Ok-clause-past : goal.returns-in_ok-note_bytes-in-Ok-clause-past

@@ -2,9 +2,9 @@ use Rattle.std.proofs.Common.{◌∙◌, arith, rules}
 use Rattle.wasm_readers.specs.WasmReadersBytes.Reader.{rest}
 use Rattle.wasm_validator_segments.specs.Elements.{behind_function}
 use Rattle.wasm_spec.specs.Values.{u32_at}
-use Rattle.wasm_validator_segments.specs.Named.{itself}
+use Rattle.wasm_validator_segments.specs.NamedFunctions.{itself}
 use Rattle.wasm_validator_segments.proofs.Loops.{one_less}
-use Rattle.wasm_validator_segments.proofs.Read.{function_read, read_and_noted}
+use Rattle.wasm_validator_segments.proofs.PartReads.{function_read, read_and_noted}
 use Rattle.wasm_validator_segments.proofs.lists.pass_functions.Goals as goal
 
 pub items-preserved : goal.items-preserved

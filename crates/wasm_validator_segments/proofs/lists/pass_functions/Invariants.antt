@@ -3,7 +3,7 @@ use Rattle.wasm_readers.specs.WasmReadersBytes.Reader.{SameInput, position_in, r
 use Rattle.wasm_validator_segments.specs.Elements.{behind_function}
 use Rattle.wasm_validator_segments.specs.Lists.{behind_many}
 use Rattle.wasm_validator_constants.specs.WasmValidatorReferences.Notes.{noting}
-use Rattle.wasm_validator_segments.specs.Named.{names_of_functions}
+use Rattle.wasm_validator_segments.specs.NamedFunctions.{names_of_functions}
 use Rattle.wasm_validator_segments.proofs.lists.pass_functions.Given as goal
 
 abbrev pub invariant-items : goal.invariant-items

@@ -5,7 +5,7 @@ use Rattle.wasm_readers_types.specs.WasmReadersValues.SeenValues.{val_of}
 use Rattle.wasm_validator_constants.specs.WasmValidatorReferences.WasmSpecValidity.Expressions.{expression_at, named}
 use Rattle.wasm_validator_segments.specs.Expressions.{behind_expression}
 use Rattle.wasm_validator_segments.proofs.Loops.{one_less}
-use Rattle.wasm_validator_segments.proofs.Read.{expression_read, read_and_noted}
+use Rattle.wasm_validator_segments.proofs.PartReads.{expression_read, read_and_noted}
 use Rattle.wasm_validator_segments.proofs.PassedReferences.{item_found}
 use Rattle.wasm_validator_segments.proofs.lists.pass_references.Goals as goal
 

@@ -6,7 +6,7 @@ use Rattle.wasm_validator_constants.specs.Items.{KnowsType, KnowsNull}
 use Rattle.wasm_validator_segments.specs.Expressions.{behind_expression}
 use Rattle.wasm_validator_segments.specs.Lists.{behind_many}
 use Rattle.wasm_validator_constants.specs.WasmValidatorReferences.Notes.{noting}
-use Rattle.wasm_validator_segments.specs.Named.{names_of_expressions}
+use Rattle.wasm_validator_segments.specs.NamedFunctions.{names_of_expressions}
 use Rattle.wasm_validator_segments.proofs.lists.pass_references.Given as goal
 
 abbrev pub invariant-items : goal.invariant-items

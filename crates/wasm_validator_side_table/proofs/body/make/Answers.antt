@@ -3,14 +3,14 @@ use Rattle.wasm_spec_rules.specs.Contexts.{Context}
 use Rattle.wasm_spec_rules.specs.FeatureFlags.{features_of}
 use Rattle.wasm_readers.specs.WasmReadersBytes.Reader.{input, original, place_of_next, rest}
 use Rattle.wasm_readers_types.specs.WasmReadersValues.declared.indices.UnpackedIndex.{UnpackedIndex}
-use Rattle.wasm_parser.specs.Seen.{body_of, body_reader}
-use Rattle.wasm_operator_validator.specs.Typed.{typed_state, locals_in}
+use Rattle.wasm_parser.specs.PayloadViews.{body_of, body_reader}
+use Rattle.wasm_typing_validator.specs.BodyTyping.{typed_state, locals_in}
 use Rattle.wasm_validator_func.specs.Functions.{IsFunctionBody}
-use Rattle.wasm_validator_func.specs.Validated.{body_in, Validates}
+use Rattle.wasm_validator_func.specs.BodyValidation.{body_in, Validates}
 use Rattle.wasm_validator_func.proofs.Functions.{accepted, begins_not, body_refused}
-use Rattle.wasm_validator_side_table.specs.Shown.{shown}
+use Rattle.wasm_validator_side_table.specs.TableViews.{shown}
 use Rattle.wasm_validator_side_table.specs.Tables.{HasRead, IsTableOf}
-use Rattle.wasm_validator_side_table.proofs.Whole.{table_is, makes, makes_told, ends_low}
+use Rattle.wasm_validator_side_table.proofs.WholeTables.{table_is, makes, makes_told, ends_low}
 use Rattle.wasm_validator_side_table.proofs.body.make.Goals as goal
 
 pub returns-in-Err-into_validator-clause-decides : goal.returns-in-Err-into_validator-clause-decides

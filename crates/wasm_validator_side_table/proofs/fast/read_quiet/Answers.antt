@@ -1,7 +1,7 @@
 use Rattle.std.proofs.Common.{◌≡◌, ◌∷◌, rules, tests}
 use Rattle.wasm_readers.specs.WasmReadersBytes.Reader.{SameInput, rest}
-use Rattle.wasm_validator_side_table.specs.Fast.{IsQuiet}
-use Rattle.wasm_validator_side_table.proofs.Fasting.{quietly}
+use Rattle.wasm_validator_side_table.specs.OperatorNotes.{IsQuiet}
+use Rattle.wasm_validator_side_table.proofs.InstructionBytes.{quietly}
 use Rattle.wasm_validator_side_table.proofs.fast.read_quiet.Goals as goal
 
 pub returns-in-Ok-clause-advances : goal.returns-in-Ok-clause-advances

@@ -4,7 +4,7 @@ use Rattle.std.proofs.lemmas.Option.{slice_get_read}
 use Rattle.wasm_validator_type_ancestors.specs.Supers.{extended, extended_in}
 use Rattle.wasm_validator_type_ancestors.specs.Entries.{supers_of}
 use Rattle.wasm_validator_type_ancestors.proofs.Store.{one-longer, kept-then}
-use Rattle.wasm_validator_type_ancestors.proofs.OneMore.{stand-more, says-more, extended-more}
+use Rattle.wasm_validator_type_ancestors.proofs.AncestorExtensions.{stand-more, says-more, extended-more}
 use Rattle.wasm_validator_type_ancestors.proofs.entries.entries_of.Goals as goal
 
 pub entry_of-requires-clause-earlier : goal.entry_of-requires-clause-earlier

@@ -1,6 +1,6 @@
 use Rattle.std.proofs.Common.{◌≡◌, ℕ, ◌+◌, ◌-◌, ◌≤◌, slice_get, Option, Some}
 use Rattle.wasm_validator_type_groups.specs.WasmSpec.Syntax.{Sub}
-use Rattle.wasm_validator_type_groups.specs.WasmSpec.Declared.{IsDepth}
+use Rattle.wasm_validator_type_groups.specs.WasmSpec.SupertypeOrder.{IsDepth}
 use Rattle.wasm_validator_type_ancestors.specs.Supers.{Tells}
 use Rattle.wasm_validator_type_ancestors.specs.Entries.{supers_of}
 use Rattle.wasm_validator_type_ancestors.proofs.Chains.{IsWalk}

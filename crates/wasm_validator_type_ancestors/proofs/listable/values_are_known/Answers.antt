@@ -1,7 +1,7 @@
 use Rattle.std.proofs.Common.{All}
 use Rattle.wasm_validator_type_groups.specs.WasmSpec.References.{refs_val}
 use Rattle.wasm_validator_type_groups.specs.WasmReadersTypes.WasmReadersValues.SeenValues.{val_of}
-use Rattle.wasm_validator_type_ancestors.specs.Listable.{IsKnown}
+use Rattle.wasm_validator_type_ancestors.specs.GroupReferences.{IsKnown}
 use Rattle.wasm_validator_type_ancestors.proofs.Items.{none_first, one_more, all_first}
 use Rattle.wasm_validator_type_ancestors.proofs.listable.values_are_known.Goals as goal
 

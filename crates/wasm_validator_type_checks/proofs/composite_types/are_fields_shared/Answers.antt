@@ -4,10 +4,10 @@ use Rattle.wasm_spec.specs.References.{refs_field}
 use Rattle.wasm_spec.specs.Matching.{is_shared_storage}
 use Rattle.wasm_readers_types.specs.WasmReadersValues.SeenValues.{storage_of, field_of}
 use Rattle.wasm_readers_types.specs.WasmReadersValues.declared.values.FieldType.{FieldType}
-use Rattle.wasm_validator_type_list.specs.Declares.{declares}
-use Rattle.wasm_validator_type_list.specs.Grouped.{leads_in, AreIn}
-use Rattle.wasm_validator_type_list.proofs.Grouped.{item_holds}
-use Rattle.wasm_validator_type_checks.proofs.Shared.{tested, all_tested}
+use Rattle.wasm_validator_type_list.specs.DeclarationsById.{declares}
+use Rattle.wasm_validator_type_list.specs.GroupTypes.{leads_in, AreIn}
+use Rattle.wasm_validator_type_list.proofs.GroupMatching.{item_holds}
+use Rattle.wasm_validator_type_checks.proofs.SharedTypes.{tested, all_tested}
 use Rattle.wasm_validator_type_checks.proofs.composite_types.are_fields_shared.Goals as goal
 
 pub is_stored_shared-requires : goal.is_stored_shared-requires

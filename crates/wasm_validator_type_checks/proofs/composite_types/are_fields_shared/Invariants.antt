@@ -4,8 +4,8 @@ use Rattle.wasm_spec.specs.Syntax.{map_storage}
 use Rattle.wasm_spec.specs.Matching.{is_shared_storage}
 use Rattle.wasm_readers_types.specs.WasmReadersValues.SeenValues.{storage_of}
 use Rattle.wasm_readers_types.specs.WasmReadersValues.declared.values.FieldType.{FieldType}
-use Rattle.wasm_validator_type_list.specs.Declares.{declares}
-use Rattle.wasm_validator_type_list.specs.Grouped.{leads_in}
+use Rattle.wasm_validator_type_list.specs.DeclarationsById.{declares}
+use Rattle.wasm_validator_type_list.specs.GroupTypes.{leads_in}
 use Rattle.wasm_validator_type_checks.proofs.composite_types.are_fields_shared.Given as goal
 
 abbrev pub invariant-fields : goal.invariant-fields

@@ -1,7 +1,7 @@
-use Rattle.wasm_validator_type_list.specs.Declares.{declares}
-use Rattle.wasm_validator_type_list.specs.Grouped.{leads_in}
-use Rattle.wasm_validator_type_list.proofs.Grouped.{params_in, results_in, fields_in}
-use Rattle.wasm_validator_type_checks.proofs.Shared.{func_shared_then, func_shared_else, struct_shared}
+use Rattle.wasm_validator_type_list.specs.DeclarationsById.{declares}
+use Rattle.wasm_validator_type_list.specs.GroupTypes.{leads_in}
+use Rattle.wasm_validator_type_list.proofs.GroupMatching.{params_in, results_in, fields_in}
+use Rattle.wasm_validator_type_checks.proofs.SharedTypes.{func_shared_then, func_shared_else, struct_shared}
 use Rattle.wasm_validator_type_checks.proofs.composite_types.are_members_shared.Goals as goal
 
 pub are_shared-requires : goal.are_shared-requires

@@ -4,8 +4,8 @@ use Rattle.wasm_spec.specs.Syntax.{map_val}
 use Rattle.wasm_spec.specs.Matching.{is_shared_val}
 use Rattle.wasm_readers_types.specs.WasmReadersValues.SeenValues.{val_of}
 use Rattle.wasm_readers_types.specs.WasmReadersValues.declared.values.ValType.{ValType}
-use Rattle.wasm_validator_type_list.specs.Declares.{declares}
-use Rattle.wasm_validator_type_list.specs.Grouped.{leads_in}
+use Rattle.wasm_validator_type_list.specs.DeclarationsById.{declares}
+use Rattle.wasm_validator_type_list.specs.GroupTypes.{leads_in}
 use Rattle.wasm_validator_type_checks.proofs.composite_types.are_shared.Given as goal
 
 abbrev pub invariant-values : goal.invariant-values

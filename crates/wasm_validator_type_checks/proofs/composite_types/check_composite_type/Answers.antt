@@ -3,17 +3,17 @@ use Rattle.std.proofs.lemmas.Bool.Decides.{Decides-like}
 use Rattle.std.proofs.lemmas.Grind.{common_steps}
 use Rattle.wasm_validator_resources.specs.WasmSpecRules.FeatureFlags.{features_of}
 use Rattle.wasm_readers_types.specs.SeenTypes.{comp_of}
-use Rattle.wasm_validator_type_list.specs.Declares.{declares}
-use Rattle.wasm_validator_type_list.specs.Grouped.{leads_in}
-use Rattle.wasm_validator_resources.specs.Allowed.{allows_comp}
-use Rattle.wasm_validator_type_checks.specs.Listed.{says}
+use Rattle.wasm_validator_type_list.specs.DeclarationsById.{declares}
+use Rattle.wasm_validator_type_list.specs.GroupTypes.{leads_in}
+use Rattle.wasm_validator_resources.specs.AllowedComposites.{allows_comp}
+use Rattle.wasm_validator_type_checks.specs.TypesById.{says}
 use Rattle.wasm_validator_type_checks.specs.Rules.{CompositeRules}
-use Rattle.wasm_validator_type_checks.proofs.Allowed.{comp_allowed}
-use Rattle.wasm_validator_type_checks.proofs.Listed.{listed_comp}
+use Rattle.wasm_validator_type_checks.proofs.AllowedComposites.{comp_allowed}
+use Rattle.wasm_validator_type_checks.proofs.ListedTypes.{listed_comp}
 use Rattle.wasm_validator_type_checks.proofs.Rules.{declares_rule, rule_declared, composite_rules, composite_allowed, members_shared}
-use Rattle.wasm_validator_type_checks.proofs.Decided.{misses, decided_itself}
+use Rattle.wasm_validator_type_checks.proofs.RuleTests.{misses, decided_itself}
 use Rattle.wasm_validator_resources.specs.WasmReadersErrors.Refusals.{refused}
-use Rattle.wasm_validator_type_checks.proofs.Told.{stopped, went, or_stopped, or_went, declared_tells, comp_told}
+use Rattle.wasm_validator_type_checks.proofs.RefusalSteps.{stopped, went, or_stopped, or_went, declared_tells, comp_told}
 use Rattle.wasm_validator_type_checks.proofs.composite_types.check_composite_type.Goals as goal
 
 pub returns-in_err-check_composite_type-clause-decided : goal.returns-in_err-check_composite_type-clause-decided

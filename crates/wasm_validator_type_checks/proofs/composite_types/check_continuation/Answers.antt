@@ -2,9 +2,9 @@ use Rattle.std.proofs.Common.{ap, ◌∙◌}
 use Rattle.wasm_spec.specs.Syntax.{map_comp}
 use Rattle.wasm_readers_types.specs.WasmReadersValues.SeenValues.{index_of}
 use Rattle.wasm_readers_types.specs.SeenTypes.{comp_of}
-use Rattle.wasm_validator_type_list.specs.Declares.{declares}
-use Rattle.wasm_validator_type_list.specs.Grouped.{leads_in}
-use Rattle.wasm_validator_type_checks.proofs.Told.{continuation_tells}
+use Rattle.wasm_validator_type_list.specs.DeclarationsById.{declares}
+use Rattle.wasm_validator_type_list.specs.GroupTypes.{leads_in}
+use Rattle.wasm_validator_type_checks.proofs.RefusalSteps.{continuation_tells}
 use Rattle.wasm_validator_type_checks.proofs.composite_types.check_continuation.Goals as goal
 
 pub returns-in-Cont-clause-told : goal.returns-in-Cont-clause-told

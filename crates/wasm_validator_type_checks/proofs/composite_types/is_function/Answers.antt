@@ -1,4 +1,4 @@
-use Rattle.wasm_validator_type_checks.proofs.Shared.{function_seen}
+use Rattle.wasm_validator_type_checks.proofs.SharedTypes.{function_seen}
 use Rattle.wasm_validator_type_checks.proofs.composite_types.is_function.Goals as goal
 
 pub returns : goal.returns

@@ -1,8 +1,8 @@
 use Rattle.std.proofs.Common.{◌≡◌, refl, is_ok, true, Some}
-use Rattle.wasm_spec.specs.Declared.{descriptor_of, described_by}
-use Rattle.wasm_validator_type_list.specs.Declares.{declares}
-use Rattle.wasm_validator_type_checks.specs.Listed.{number}
-use Rattle.wasm_validator_type_checks.proofs.Decided.{on_none, on_some, is_decided, same_ids}
+use Rattle.wasm_spec.specs.SupertypeOrder.{descriptor_of, described_by}
+use Rattle.wasm_validator_type_list.specs.DeclarationsById.{declares}
+use Rattle.wasm_validator_type_checks.specs.TypesById.{number}
+use Rattle.wasm_validator_type_checks.proofs.RuleTests.{on_none, on_some, is_decided, same_ids}
 use Rattle.wasm_validator_type_checks.proofs.descriptors.check_described.Goals as goal
 
 pub returns-in-Some-clause-decided : goal.returns-in-Some-clause-decided

@@ -4,14 +4,14 @@ use Rattle.std.proofs.lemmas.Grind.{common_steps}
 use Rattle.wasm_spec.specs.GroupRules.{DescriptorRules}
 use Rattle.wasm_validator_resources.specs.WasmSpecRules.FeatureFlags.{features_of}
 use Rattle.wasm_readers_types.specs.SeenTypes.{sub_of}
-use Rattle.wasm_validator_type_list.specs.Declares.{declares}
-use Rattle.wasm_validator_type_list.specs.Grouped.{leads_in}
-use Rattle.wasm_validator_type_checks.specs.Listed.{says}
-use Rattle.wasm_validator_type_checks.proofs.Listed.{supertypes_declare}
+use Rattle.wasm_validator_type_list.specs.DeclarationsById.{declares}
+use Rattle.wasm_validator_type_list.specs.GroupTypes.{leads_in}
+use Rattle.wasm_validator_type_checks.specs.TypesById.{says}
+use Rattle.wasm_validator_type_checks.proofs.ListedTypes.{supertypes_declare}
 use Rattle.wasm_validator_type_checks.proofs.Rules.{declares_rule, rule_declared, clauses_kept, descriptor_rules, extends_clauses_from, descriptor_from, described_from, finality_from}
-use Rattle.wasm_validator_type_checks.proofs.Decided.{misses}
+use Rattle.wasm_validator_type_checks.proofs.RuleTests.{misses}
 use Rattle.wasm_validator_resources.specs.WasmReadersErrors.Refusals.{refused}
-use Rattle.wasm_validator_type_checks.proofs.Told.{tells, stopped, went, declared_tells, clauses_told}
+use Rattle.wasm_validator_type_checks.proofs.RefusalSteps.{tells, stopped, went, declared_tells, clauses_told}
 use Rattle.wasm_validator_type_checks.proofs.descriptors.check_descriptors.Goals as goal
 
 pub returns-in_err-check_supertype_clauses-clause-decided : goal.returns-in_err-check_supertype_clauses-clause-decided

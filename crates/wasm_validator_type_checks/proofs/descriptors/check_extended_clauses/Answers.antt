@@ -1,7 +1,7 @@
 use Rattle.std.proofs.Common.{◌≡◌, ap, is_ok, arith}
 use Rattle.std.proofs.lemmas.Grind.{common_steps}
 use Rattle.wasm_validator_resources.specs.WasmReadersErrors.Refusals.{refused}
-use Rattle.wasm_validator_type_checks.proofs.Told.{tells, stopped, went}
+use Rattle.wasm_validator_type_checks.proofs.RefusalSteps.{tells, stopped, went}
 use Rattle.wasm_validator_type_checks.proofs.descriptors.check_extended_clauses.Goals as goal
 
 pub returns-in_err-check_descriptor_alike-clause-told : goal.returns-in_err-check_descriptor_alike-clause-told

@@ -1,4 +1,4 @@
-use Rattle.wasm_validator_type_checks.proofs.Shared.{finality_seen}
+use Rattle.wasm_validator_type_checks.proofs.SharedTypes.{finality_seen}
 use Rattle.wasm_validator_type_checks.proofs.descriptors.have_same_finality.Goals as goal
 
 pub returns : goal.returns

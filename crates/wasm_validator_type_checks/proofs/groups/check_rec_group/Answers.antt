@@ -2,11 +2,11 @@ use Rattle.std.proofs.Common.{◌≡◌, ◌<◌, ◌+◌, length, ap, arith}
 use Rattle.std.specs.declared.ops.Range.{Range}
 use Rattle.wasm_readers_types.specs.WasmReadersValues.declared.indices.CoreTypeId.{CoreTypeId}
 use Rattle.wasm_validator_type_list.specs.WasmValidatorTypeGroups.Groups.{first_of, IsInGroup}
-use Rattle.wasm_validator_type_list.specs.Listing.{types_in}
+use Rattle.wasm_validator_type_list.specs.ListViews.{types_in}
 use Rattle.wasm_validator_type_list.proofs.DefTypes.{first_of-within}
 use Rattle.wasm_validator_resources.specs.WasmReadersErrors.Refusals.{refused}
-use Rattle.wasm_validator_type_checks.proofs.Told.{handed_on, group_tells}
-use Rattle.wasm_validator_type_checks.proofs.ToldAt.{group_told_at}
+use Rattle.wasm_validator_type_checks.proofs.RefusalSteps.{handed_on, group_tells}
+use Rattle.wasm_validator_type_checks.proofs.RefusalPlaces.{group_told_at}
 use Rattle.wasm_validator_type_checks.proofs.groups.check_rec_group.Goals as goal
 
 pub overflow_cast-index : goal.overflow_cast-index

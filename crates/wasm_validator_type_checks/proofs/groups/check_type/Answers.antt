@@ -1,6 +1,6 @@
 use Rattle.std.proofs.Common.{◌≡◌, ap, is_ok}
 use Rattle.wasm_validator_resources.specs.WasmReadersErrors.Refusals.{refused}
-use Rattle.wasm_validator_type_checks.proofs.Told.{handed_on, stopped, went}
+use Rattle.wasm_validator_type_checks.proofs.RefusalSteps.{handed_on, stopped, went}
 use Rattle.wasm_validator_type_checks.proofs.groups.check_type.Goals as goal
 
 pub returns-in_err-check_subtype-clause-told : goal.returns-in_err-check_subtype-clause-told

@@ -1,4 +1,4 @@
-use Rattle.wasm_validator_type_checks.proofs.Listed.{listed_descriptor}
+use Rattle.wasm_validator_type_checks.proofs.ListedTypes.{listed_descriptor}
 use Rattle.wasm_validator_type_checks.proofs.ids.descriptor.Goals as goal
 
 pub optional_id_at-requires-clause-known : goal.optional_id_at-requires-clause-known

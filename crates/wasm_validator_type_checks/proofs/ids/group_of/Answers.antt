@@ -1,4 +1,4 @@
-use Rattle.wasm_validator_type_checks.proofs.Listed.{is_listed}
+use Rattle.wasm_validator_type_checks.proofs.ListedTypes.{is_listed}
 use Rattle.wasm_validator_type_checks.proofs.ids.group_of.Goals as goal
 
 pub returns-clause-listed : goal.returns-clause-listed

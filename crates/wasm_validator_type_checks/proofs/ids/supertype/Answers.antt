@@ -1,6 +1,6 @@
 use Rattle.std.proofs.Common.{sym}
-use Rattle.wasm_validator_type_list.proofs.Declares.{supertype_read}
-use Rattle.wasm_validator_type_checks.proofs.Listed.{supertype_in}
+use Rattle.wasm_validator_type_list.proofs.IdDeclarations.{supertype_read}
+use Rattle.wasm_validator_type_checks.proofs.ListedTypes.{supertype_in}
 use Rattle.wasm_validator_type_checks.proofs.ids.supertype.Goals as goal
 
 pub returns-clause-leads : goal.returns-clause-leads

@@ -1,6 +1,6 @@
 use Rattle.std.proofs.Common.{◌<◌, ◌≤◌, arith}
-use Rattle.wasm_validator_type_list.specs.Declares.{declares}
-use Rattle.wasm_validator_type_checks.proofs.Depth.{depth_below, depth_from}
+use Rattle.wasm_validator_type_list.specs.DeclarationsById.{declares}
+use Rattle.wasm_validator_type_checks.proofs.LinkDepths.{depth_below, depth_from}
 use Rattle.wasm_validator_type_checks.proofs.subtypes.check_depth.Goals as goal
 
 pub returns-then-depth-lt-TOO_DEEP-clause-decided : goal.returns-then-depth-lt-TOO_DEEP-clause-decided

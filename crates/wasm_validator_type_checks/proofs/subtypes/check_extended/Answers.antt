@@ -1,8 +1,8 @@
 use Rattle.std.proofs.Common.{refl, is_ok, false}
-use Rattle.wasm_validator_type_checks.proofs.Decided.{misses, then_decides, is_decided}
+use Rattle.wasm_validator_type_checks.proofs.RuleTests.{misses, then_decides, is_decided}
 use Rattle.wasm_validator_resources.specs.WasmReadersErrors.Refusals.{refused}
-use Rattle.wasm_validator_type_checks.specs.Told.{holds, first, second}
-use Rattle.wasm_validator_type_checks.proofs.Told.{tells, refuses}
+use Rattle.wasm_validator_type_checks.specs.TypeRefusals.{holds, first, second}
+use Rattle.wasm_validator_type_checks.proofs.RefusalSteps.{tells, refuses}
 use Rattle.wasm_validator_type_checks.proofs.subtypes.check_extended.Goals as goal
 
 pub returns-then-not-open-clause-decided : goal.returns-then-not-open-clause-decided

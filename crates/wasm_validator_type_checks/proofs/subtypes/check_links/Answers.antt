@@ -1,7 +1,7 @@
 use Rattle.std.proofs.Common.{◌≡◌, ◌<◌, refl, sym, ap, ◌∙◌, Some, true, false, arith}
-use Rattle.wasm_validator_type_list.specs.Declares.{declares}
-use Rattle.wasm_validator_type_checks.specs.Listed.{numbered}
-use Rattle.wasm_validator_type_checks.proofs.Depth.{next_link, ends_before, goes_on}
+use Rattle.wasm_validator_type_list.specs.DeclarationsById.{declares}
+use Rattle.wasm_validator_type_checks.specs.TypesById.{numbered}
+use Rattle.wasm_validator_type_checks.proofs.LinkDepths.{next_link, ends_before, goes_on}
 use Rattle.wasm_validator_type_checks.proofs.subtypes.check_links.Goals as goal
 
 pub links-preserved : goal.links-preserved

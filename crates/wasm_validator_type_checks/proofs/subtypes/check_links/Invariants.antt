@@ -1,7 +1,7 @@
 use Rattle.std.proofs.Common.{◌≡◌, ◌<◌, length, Some}
-use Rattle.wasm_spec.specs.Declared.{ancestor_at}
-use Rattle.wasm_validator_type_list.specs.Listing.{types_in}
-use Rattle.wasm_validator_type_list.specs.Declares.{declares}
+use Rattle.wasm_spec.specs.SupertypeOrder.{ancestor_at}
+use Rattle.wasm_validator_type_list.specs.ListViews.{types_in}
+use Rattle.wasm_validator_type_list.specs.DeclarationsById.{declares}
 use Rattle.wasm_validator_type_checks.proofs.subtypes.check_links.Given as goal
 
 abbrev pub invariant-links : goal.invariant-links

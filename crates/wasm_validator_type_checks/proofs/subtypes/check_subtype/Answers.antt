@@ -4,15 +4,15 @@ use Rattle.std.proofs.lemmas.Grind.{common_steps}
 use Rattle.wasm_spec.specs.GroupRules.{TypeRules}
 use Rattle.wasm_validator_resources.specs.WasmSpecRules.FeatureFlags.{features_of}
 use Rattle.wasm_readers_types.specs.SeenTypes.{sub_of}
-use Rattle.wasm_validator_type_list.specs.Declares.{declares}
-use Rattle.wasm_validator_type_list.specs.Grouped.{leads_in}
-use Rattle.wasm_validator_type_checks.specs.Listed.{says}
+use Rattle.wasm_validator_type_list.specs.DeclarationsById.{declares}
+use Rattle.wasm_validator_type_list.specs.GroupTypes.{leads_in}
+use Rattle.wasm_validator_type_checks.specs.TypesById.{says}
 use Rattle.wasm_validator_type_checks.specs.Rules.{CompositeRules}
-use Rattle.wasm_validator_type_checks.proofs.Listed.{supertypes_declare}
+use Rattle.wasm_validator_type_checks.proofs.ListedTypes.{supertypes_declare}
 use Rattle.wasm_validator_type_checks.proofs.Rules.{declares_rule, rule_declared, extending_kept, type_rules, extends_from, shallow_from}
-use Rattle.wasm_validator_type_checks.proofs.Decided.{misses}
+use Rattle.wasm_validator_type_checks.proofs.RuleTests.{misses}
 use Rattle.wasm_validator_resources.specs.WasmReadersErrors.Refusals.{refused}
-use Rattle.wasm_validator_type_checks.proofs.Told.{tells, handed_on, stopped, went, declared_tells, extending_told}
+use Rattle.wasm_validator_type_checks.proofs.RefusalSteps.{tells, handed_on, stopped, went, declared_tells, extending_told}
 use Rattle.wasm_validator_type_checks.proofs.subtypes.check_subtype.Goals as goal
 
 pub returns-in_err-check_supertype-clause-decided : goal.returns-in_err-check_supertype-clause-decided

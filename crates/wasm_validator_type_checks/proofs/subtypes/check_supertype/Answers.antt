@@ -1,11 +1,11 @@
 use Rattle.std.proofs.Common.{refl, is_ok, true}
-use Rattle.wasm_spec.specs.Declared.{supertype_of}
-use Rattle.wasm_validator_type_list.specs.Declares.{declares}
-use Rattle.wasm_validator_type_checks.specs.Listed.{number}
+use Rattle.wasm_spec.specs.SupertypeOrder.{supertype_of}
+use Rattle.wasm_validator_type_list.specs.DeclarationsById.{declares}
+use Rattle.wasm_validator_type_checks.specs.TypesById.{number}
 use Rattle.wasm_validator_type_checks.specs.Rules.{MayExtend}
-use Rattle.wasm_validator_type_checks.proofs.Decided.{on_none, on_some}
-use Rattle.wasm_validator_type_checks.specs.Told.{ToldOfExtended}
-use Rattle.wasm_validator_type_checks.proofs.Told.{of_some, of_none}
+use Rattle.wasm_validator_type_checks.proofs.RuleTests.{on_none, on_some}
+use Rattle.wasm_validator_type_checks.specs.TypeRefusals.{ToldOfExtended}
+use Rattle.wasm_validator_type_checks.proofs.RefusalSteps.{of_some, of_none}
 use Rattle.wasm_validator_resources.specs.WasmReadersErrors.Refusals.{refused}
 use Rattle.wasm_validator_type_checks.proofs.subtypes.check_supertype.Goals as goal
 

@@ -1,4 +1,4 @@
-use Rattle.wasm_validator_type_checks.proofs.Shared.{open_seen}
+use Rattle.wasm_validator_type_checks.proofs.SharedTypes.{open_seen}
 use Rattle.wasm_validator_type_checks.proofs.subtypes.is_open.Goals as goal
 
 pub returns : goal.returns

@@ -1,4 +1,4 @@
-use Rattle.wasm_validator_type_groups.proofs.Standing.{other_length, is_there, stands_at}
+use Rattle.wasm_validator_type_groups.proofs.MemberPlaces.{other_length, is_there, stands_at}
 use Rattle.wasm_validator_type_groups.proofs.known_groups.is_group.Goals as goal
 
 pub returns-then-saturating_sub-group : goal.returns-then-saturating_sub-group

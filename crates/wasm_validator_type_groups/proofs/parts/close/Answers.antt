@@ -1,7 +1,7 @@
 use Rattle.std.proofs.Common.{◌≡◌, ◌∙◌, ap, map, ◌++◌, ◌∷◌, []}
 use Rattle.wasm_validator_type_groups.specs.declared.parts.Part.{Part}
 use Rattle.wasm_validator_type_groups.specs.Parts.{seen, all_items}
-use Rattle.wasm_validator_type_groups.proofs.Ends.{closed_items}
+use Rattle.wasm_validator_type_groups.proofs.PieceEnds.{closed_items}
 use Rattle.wasm_validator_type_groups.proofs.parts.close.Goals as goal
 
 pub returns-in-Ok-clause-items : goal.returns-in-Ok-clause-items

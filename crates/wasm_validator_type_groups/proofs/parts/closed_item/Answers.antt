@@ -1,7 +1,7 @@
 use Rattle.std.proofs.Common.{arith, ◌∙◌, sym, subst, map}
 use Rattle.wasm_validator_type_groups.specs.Parts.{seen, run_seen, all_items, RunsStand}
-use Rattle.wasm_validator_type_groups.proofs.Ends.{end-is, ends, in_closed, in_open}
-use Rattle.wasm_validator_type_groups.proofs.RunsStand.{runs_end}
+use Rattle.wasm_validator_type_groups.proofs.PieceEnds.{end-is, ends, in_closed, in_open}
+use Rattle.wasm_validator_type_groups.proofs.PartRuns.{runs_end}
 use Rattle.wasm_validator_type_groups.proofs.parts.closed_item.Goals as goal
 
 pub item_at-requires-clause-stand : goal.item_at-requires-clause-stand

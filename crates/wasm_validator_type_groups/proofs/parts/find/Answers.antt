@@ -1,6 +1,6 @@
 use Rattle.std.proofs.Common.{arith, ◌≡◌, ℕ, ◌<◌, ◌≤◌, ◌+◌, ◌∙◌, sym, subst, length, map}
 use Rattle.wasm_validator_type_groups.specs.Parts.{all_items}
-use Rattle.wasm_validator_type_groups.proofs.Ends.{before, piece_first, whole_end, some_piece}
+use Rattle.wasm_validator_type_groups.proofs.PieceEnds.{before, piece_first, whole_end, some_piece}
 use Rattle.wasm_validator_type_groups.proofs.parts.find.Goals as goal
 use Rattle.wasm_validator_type_groups.proofs.parts.find.Goals.{then-first-place, else-first-place}
 

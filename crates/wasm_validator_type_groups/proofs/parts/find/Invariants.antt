@@ -1,5 +1,5 @@
 use Rattle.std.proofs.Common.{◌≤◌, ◌<◌, ◌+◌, ◌-◌, length}
-use Rattle.wasm_validator_type_groups.proofs.Ends.{before}
+use Rattle.wasm_validator_type_groups.proofs.PieceEnds.{before}
 use Rattle.wasm_validator_type_groups.proofs.parts.find.Given as goal
 
 abbrev pub invariant-pieces : goal.invariant-pieces

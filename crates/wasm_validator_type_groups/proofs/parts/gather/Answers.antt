@@ -2,8 +2,8 @@ use Rattle.std.proofs.Common.{arith, ◌≡◌, sym, ap, subst, ◌∙◌, ◌<�
 use Rattle.wasm_validator_type_groups.specs.declared.parts.Part.{Part}
 use Rattle.wasm_validator_type_groups.specs.declared.parts.Run.{Run}
 use Rattle.wasm_validator_type_groups.specs.Parts.{seen, run_seen, all_items, PartsStand}
-use Rattle.wasm_validator_type_groups.proofs.Ends.{pushed_items}
-use Rattle.wasm_validator_type_groups.proofs.RunsStand.{pushed_run}
+use Rattle.wasm_validator_type_groups.proofs.PieceEnds.{pushed_items}
+use Rattle.wasm_validator_type_groups.proofs.PartRuns.{pushed_run}
 use Rattle.wasm_validator_type_groups.proofs.parts.gather.Goals as goal
 
 pub returns-in-Ok-clause-runs : goal.returns-in-Ok-clause-runs

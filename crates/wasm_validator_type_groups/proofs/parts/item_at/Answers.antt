@@ -1,7 +1,7 @@
 use Rattle.std.proofs.Common.{arith, ◌≡◌, ◌<◌, ◌+◌, ◌-◌, ◌∙◌, ap, map, length}
 use Rattle.std.specs.Vec.{vec_len}
 use Rattle.wasm_validator_type_groups.specs.Parts.{seen, all_items}
-use Rattle.wasm_validator_type_groups.proofs.Ends.{before, piece_first, piece_end, piece_item}
+use Rattle.wasm_validator_type_groups.proofs.PieceEnds.{before, piece_first, piece_end, piece_item}
 use Rattle.wasm_validator_type_groups.proofs.parts.item_at.Goals as goal
 
 pub overflow_sub-place : goal.overflow_sub-place

@@ -1,7 +1,7 @@
 use Rattle.std.proofs.Common.{arith, ◌≡◌, ◌<◌, ◌+◌, ◌-◌, ◌∙◌, sym, subst, map, length, get_or}
 use Rattle.wasm_validator_type_groups.specs.Parts.{seen, run_seen, all_items, PartsStand}
-use Rattle.wasm_validator_type_groups.proofs.Ends.{before, piece_first, piece_end, piece_item}
-use Rattle.wasm_validator_type_groups.proofs.RunsStand.{is_run}
+use Rattle.wasm_validator_type_groups.proofs.PieceEnds.{before, piece_first, piece_end, piece_item}
+use Rattle.wasm_validator_type_groups.proofs.PartRuns.{is_run}
 use Rattle.wasm_validator_type_groups.proofs.parts.item_of.Goals as goal
 
 pub item_at-requires-clause-stand : goal.item_at-requires-clause-stand

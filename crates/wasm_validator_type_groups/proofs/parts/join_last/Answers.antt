@@ -1,5 +1,5 @@
 use Rattle.std.proofs.Common.{arith, ◌≡◌, ◌<◌, ◌-◌, ◌∙◌, suc, ap, subst, ℕ, ◌++◌, ◌∷◌, [], take, length, get_or, slice_set}
-use Rattle.wasm_validator_type_groups.proofs.RunsStand.{is_run, behind, last_two, set_last, joined_items, joined_runs}
+use Rattle.wasm_validator_type_groups.proofs.PartRuns.{is_run, behind, last_two, set_last, joined_items, joined_runs}
 use Rattle.wasm_validator_type_groups.proofs.parts.join_last.Goals as goal
 
 pub join_runs-requires-clause-first : goal.join_runs-requires-clause-first

@@ -1,6 +1,6 @@
 use Rattle.std.proofs.Common.{◌≡◌, sym, ap, subst, ◌∙◌, ℕ, ◌+◌, ◌++◌, length, map}
 use Rattle.wasm_validator_type_groups.specs.Parts.{seen, all_items, StandFrom}
-use Rattle.wasm_validator_type_groups.proofs.Ends.{items_append, stand_append, ends}
+use Rattle.wasm_validator_type_groups.proofs.PieceEnds.{items_append, stand_append, ends}
 use Rattle.wasm_validator_type_groups.proofs.parts.join_runs.Goals as goal
 
 pub returns-clause-items : goal.returns-clause-items

@@ -3,7 +3,7 @@ use Rattle.std.specs.List.{list_all}
 use Rattle.wasm_readers_types.specs.WasmReadersValues.SeenValues.{val_of}
 use Rattle.wasm_readers_types.specs.WasmReadersValues.declared.values.ValType.{ValType}
 use Rattle.wasm_validator_canonical.specs.Indices.{knows_val}
-use Rattle.wasm_validator_canonical.proofs.Canonical.{function_known, says_as, and_false, both}
+use Rattle.wasm_validator_canonical.proofs.CanonicalTypes.{function_known, says_as, and_false, both}
 use Rattle.wasm_validator_canonical.proofs.type_canonicalizer.TypeCanonicalizer.function.Goals as goal
 
 pub returns-in-Ok-values-clause-known : goal.returns-in-Ok-values-clause-known

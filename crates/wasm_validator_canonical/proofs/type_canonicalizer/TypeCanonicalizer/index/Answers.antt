@@ -1,5 +1,5 @@
 use Rattle.std.proofs.Common.{◌≤◌, ◌<◌, length, arith}
-use Rattle.wasm_validator_canonical.specs.Told.{unknown, needs_gc}
+use Rattle.wasm_validator_canonical.specs.GroupFaults.{unknown, needs_gc}
 use Rattle.wasm_validator_canonical.proofs.type_canonicalizer.TypeCanonicalizer.index.Goals as goal
 
 pub returns-then-number-self-2-clause-told : goal.returns-then-number-self-2-clause-told

@@ -7,7 +7,7 @@ use Rattle.wasm_readers_types.specs.WasmReadersValues.declared.indices.UnpackedI
 use Rattle.wasm_readers_types.specs.declared.types.SubType.{SubType}
 use Rattle.wasm_validator_canonical.specs.declared.type_canonicalizer.TypeCanonicalizer.{TypeCanonicalizer}
 use Rattle.wasm_validator_canonical.specs.Indices.{canonical_by, is_bound_by, are_bound_by}
-use Rattle.wasm_validator_canonical.proofs.Canonical.{says_as}
+use Rattle.wasm_validator_canonical.proofs.CanonicalTypes.{says_as}
 use Rattle.wasm_validator_canonical.proofs.type_canonicalizer.TypeCanonicalizer.sub_types.Goals as goal
 
 nothing_left : {X : Type 0} (l : List X) → length l ≡ 0 → l ≡ []

@@ -3,7 +3,7 @@ use Rattle.std.specs.List.{list_all}
 use Rattle.wasm_readers_types.specs.WasmReadersValues.SeenValues.{val_of}
 use Rattle.wasm_readers_types.specs.WasmReadersValues.declared.values.ValType.{ValType}
 use Rattle.wasm_validator_canonical.specs.Indices.{has_no_index}
-use Rattle.wasm_validator_canonical.proofs.Canonical.{values_kept}
+use Rattle.wasm_validator_canonical.proofs.CanonicalTypes.{values_kept}
 use Rattle.wasm_validator_canonical.proofs.type_canonicalizer.TypeCanonicalizer.values.Goals as goal
 
 pub returns-then-not-have_index-clause-value : goal.returns-then-not-have_index-clause-value

@@ -4,12 +4,12 @@ use Rattle.std.proofs.lemmas.List.{length-map}
 use Rattle.wasm_readers_types.specs.SeenTypes.{sub_of, rec_of}
 use Rattle.wasm_validator_checks.specs.WasmValidatorTypeList.DefTypes.{types_of_list}
 use Rattle.wasm_validator_checks.specs.WasmValidatorTypes.Spaces.{Spaces}
-use Rattle.wasm_validator_checks.proofs.WasmValidatorCanonical.Longer.{begins}
+use Rattle.wasm_validator_checks.proofs.WasmValidatorCanonical.ListFronts.{begins}
 use Rattle.wasm_validator_core.specs.declared.limits.TheConstants.{MAX_TYPES}
 use Rattle.wasm_validator_core.specs.Errors.{IsAt, IfContent}
 use Rattle.wasm_validator_core.specs.Answers.{TypesSoFar, AddsWhere, HasValidTypes}
 use Rattle.wasm_validator_core.specs.Machine.{add_group}
-use Rattle.wasm_validator_core.specs.Told.{ToldOfAddedGroup, over_limit, within_limit}
+use Rattle.wasm_validator_core.specs.AddedItemRefusals.{ToldOfAddedGroup, over_limit, within_limit}
 use Rattle.wasm_validator_core.proofs.AddedGroups.{refusal, group_refused, ids_of_new, lifted_tells, lifted_at}
 use Rattle.wasm_validator_core.proofs.module.Module.add_types.Goals as goal
 

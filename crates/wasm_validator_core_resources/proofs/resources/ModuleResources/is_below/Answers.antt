@@ -1,5 +1,5 @@
 use Rattle.std.proofs.Common.{◌∙◌}
-use Rattle.wasm_validator_core_resources.proofs.Declared.{not_below, ids_below, not_above}
+use Rattle.wasm_validator_core_resources.proofs.ContextTypes.{not_below, ids_below, not_above}
 use Rattle.wasm_validator_core_resources.proofs.resources.ModuleResources.is_below.Goals as goal
 
 pub returns-in-Module : goal.returns-in-Module

@@ -1,4 +1,4 @@
-use Rattle.wasm_validator_core_resources.proofs.Declared.{none_declared}
+use Rattle.wasm_validator_core_resources.proofs.ContextTypes.{none_declared}
 use Rattle.wasm_validator_core_resources.proofs.resources.ModuleResources.type_for.Goals as goal
 
 pub returns-in-Module : goal.returns-in-Module

@@ -1,4 +1,4 @@
-use Rattle.wasm_validator_core_resources.proofs.Declared.{type_read}
+use Rattle.wasm_validator_core_resources.proofs.ContextTypes.{type_read}
 use Rattle.wasm_validator_core_resources.proofs.resources.ModuleResources.type_of.Goals as goal
 
 pub returns : goal.returns

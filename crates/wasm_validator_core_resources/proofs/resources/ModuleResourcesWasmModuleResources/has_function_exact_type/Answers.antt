@@ -1,4 +1,4 @@
-use Rattle.wasm_validator_core_resources.proofs.Exact.{exact_there, told_there, exact_past, told_past}
+use Rattle.wasm_validator_core_resources.proofs.ExactFunctions.{exact_there, told_there, exact_past, told_past}
 use Rattle.wasm_validator_core_resources.proofs.resources.ModuleResourcesWasmModuleResources.has_function_exact_type.Goals as goal
 
 pub returns-then-function_index-function_count-clause-exact :

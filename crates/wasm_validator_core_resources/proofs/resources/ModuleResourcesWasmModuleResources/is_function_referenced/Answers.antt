@@ -1,4 +1,4 @@
-use Rattle.wasm_validator_core_resources.proofs.Referenced.{flag_read, no_flag_read, each_counts}
+use Rattle.wasm_validator_core_resources.proofs.ReferencedFunctions.{flag_read, no_flag_read, each_counts}
 use Rattle.wasm_validator_core_resources.proofs.resources.ModuleResourcesWasmModuleResources.is_function_referenced.Goals as goal
 
 pub returns-in-Some-get : goal.returns-in-Some-get

@@ -1,5 +1,5 @@
 use Rattle.std.proofs.Common.{◌≤◌, sym, length, arith}
-use Rattle.wasm_validator_type_list.specs.Listing.{types_in}
+use Rattle.wasm_validator_type_list.specs.ListViews.{types_in}
 use Rattle.wasm_validator_core_resources.proofs.ById.{one_more_is_first, one_longer, kept_with_one_more, all_are_by_ids}
 use Rattle.wasm_validator_core_resources.proofs.types_by_ids.TypesByIds.copy_rest.Goals as goal
 

@@ -1,4 +1,4 @@
-use Rattle.wasm_validator_core_resources.proofs.Reading.{none_declared}
+use Rattle.wasm_validator_core_resources.proofs.CodeSectionTypes.{none_declared}
 use Rattle.wasm_validator_core_resources.proofs.validator_resources.CodeModule.type_for.Goals as goal
 
 pub returns-in-Module : goal.returns-in-Module

@@ -1,4 +1,4 @@
-use Rattle.wasm_validator_core_resources.proofs.Reading.{type_read}
+use Rattle.wasm_validator_core_resources.proofs.CodeSectionTypes.{type_read}
 use Rattle.wasm_validator_core_resources.proofs.validator_resources.CodeModule.type_of.Goals as goal
 
 pub returns : goal.returns

@@ -1,6 +1,6 @@
 use Rattle.std.proofs.Common.{refl}
 use Rattle.wasm_readers_types.specs.declared.types.CompositeInnerType.TheVariants.{Func}
-use Rattle.wasm_validator_type_list.proofs.Grouped.{params_in, results_in}
+use Rattle.wasm_validator_type_list.proofs.GroupMatching.{params_in, results_in}
 use Rattle.wasm_validator_matches.proofs.matches.WithRecGroupRefFuncTypeMatches.matches.Goals as goal
 
 pub func_signature_matches-requires-clause-sub_params : goal.func_signature_matches-requires-clause-sub_params

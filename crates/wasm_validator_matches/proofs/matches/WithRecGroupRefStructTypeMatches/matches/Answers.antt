@@ -1,7 +1,7 @@
 use Rattle.std.proofs.Common.{refl}
 use Rattle.wasm_readers_types.specs.declared.types.CompositeInnerType.TheVariants.{Struct}
-use Rattle.wasm_validator_type_list.proofs.Grouped.{fields_in}
-use Rattle.wasm_validator_type_list.proofs.Composite.{structs_match}
+use Rattle.wasm_validator_type_list.proofs.GroupMatching.{fields_in}
+use Rattle.wasm_validator_type_list.proofs.CompositeMatching.{structs_match}
 use Rattle.wasm_validator_matches.proofs.matches.WithRecGroupRefStructTypeMatches.matches.Goals as goal
 
 pub all_fields_match-requires-clause-sub : goal.all_fields_match-requires-clause-sub

@@ -1,6 +1,6 @@
 use Rattle.std.proofs.Common.{sym, subst}
 use Rattle.wasm_validator_states.specs.Payloads.{DecidesBodies}
-use Rattle.wasm_validator_modules.specs.Given.{pending_in}
+use Rattle.wasm_validator_modules.specs.PayloadAnswers.{pending_in}
 use Rattle.wasm_validator_modules.proofs.payload.Bodies.validate.Goals as goal
 
 pub returns-in-Some-clause-decided : goal.returns-in-Some-clause-decided

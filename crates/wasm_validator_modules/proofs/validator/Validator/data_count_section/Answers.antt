@@ -4,11 +4,11 @@ use Rattle.wasm_validator_states.specs.WasmValidatorTypeList.DefTypes.{types_of_
 use Rattle.wasm_validator_states.specs.WasmValidatorTypes.Spaces.{Spaces}
 use Rattle.wasm_validator_states.specs.WasmValidatorSections.WasmValidatorCore.declared.error.Error.{Error}
 use Rattle.wasm_validator_states.specs.WasmValidatorSections.WasmValidatorCore.Answers.{TypesSoFar}
-use Rattle.wasm_validator_states.specs.WasmValidatorSections.WasmValidatorCore.Told.{told_of_data_count}
-use Rattle.wasm_validator_states.specs.OrderTold.{TellsDataCount}
-use Rattle.wasm_validator_states.proofs.ToldMoves.{all_told_within, checked_told}
+use Rattle.wasm_validator_states.specs.WasmValidatorSections.WasmValidatorCore.AddedItemRefusals.{told_of_data_count}
+use Rattle.wasm_validator_states.specs.OrderRefusals.{TellsDataCount}
+use Rattle.wasm_validator_states.proofs.SectionAnswers.{all_told_within, checked_told}
 use Rattle.wasm_validator_states.specs.WasmValidatorSections.declared.module_state.ModuleState.{ModuleState}
-use Rattle.wasm_validator_states.specs.Ready.{AreIdsIn, AreValidIn, AreFirstIn}
+use Rattle.wasm_validator_states.specs.ModuleInvariants.{AreIdsIn, AreValidIn, AreFirstIn}
 use Rattle.wasm_validator_states.proofs.OpenModules.{open-ids, open-valid, open-first, kept-ids, kept-valid, kept-first}
 use Rattle.wasm_validator_modules.proofs.validator.Validator.data_count_section.Goals as goal
 

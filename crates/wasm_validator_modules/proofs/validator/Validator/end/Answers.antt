@@ -1,13 +1,13 @@
 use Rattle.std.proofs.Common.{ap, sym, subst, ◌∙◌}
 use Rattle.wasm_spec.specs.Features.{canonical}
 use Rattle.wasm_spec_rules.specs.FeatureFlags.{features_of}
-use Rattle.wasm_validator_states.specs.WasmValidatorTypeList.Interned.{AreOnce}
+use Rattle.wasm_validator_states.specs.WasmValidatorTypeList.GroupInterning.{AreOnce}
 use Rattle.wasm_validator_states.specs.WasmValidatorCanonical.Groups.{AreValid}
 use Rattle.wasm_validator_states.specs.WasmValidatorTypeList.DefTypes.{types_of_list}
-use Rattle.wasm_validator_states.specs.WasmValidatorTypes.Shown.{shown_of}
-use Rattle.wasm_validator_states.specs.WasmValidatorSections.WasmValidatorCore.Ready.{IsOpenFor}
+use Rattle.wasm_validator_states.specs.WasmValidatorTypes.ShownModules.{shown_of}
+use Rattle.wasm_validator_states.specs.WasmValidatorSections.WasmValidatorCore.OpenLists.{IsOpenFor}
 use Rattle.wasm_validator_states.specs.WasmValidatorSections.WasmLawsContexts.WasmValidatorCoreResources.ById.{AreFirstByIds}
-use Rattle.wasm_validator_states.specs.Standing.{Standing}
+use Rattle.wasm_validator_states.specs.ValidatorStages.{Standing}
 use Rattle.wasm_validator_states.specs.Views.{ended_spaces}
 use Rattle.wasm_validator_states.proofs.OpenModules.{ended_from_open, shown_from_open, read-valid, read-first, shown-valid, shown-ids}
 use Rattle.wasm_validator_modules.proofs.validator.Validator.end.Goals as goal

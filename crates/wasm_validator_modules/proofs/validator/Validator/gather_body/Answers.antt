@@ -1,8 +1,8 @@
 use Rattle.std.proofs.Common.{refl, inl, inr, arith}
 use Rattle.wasm_validator_states.specs.WasmParser.Places.{reader_end}
-use Rattle.wasm_validator_states.specs.WasmParser.Seen.{body_reader}
+use Rattle.wasm_validator_states.specs.WasmParser.PayloadViews.{body_reader}
 use Rattle.wasm_validator_modules.specs.declared.payload.ValidPayload.TheVariants.{Func}
-use Rattle.wasm_validator_modules.proofs.Gathering.{body_gathered, body_refused}
+use Rattle.wasm_validator_modules.proofs.BodyPayloads.{body_gathered, body_refused}
 use Rattle.wasm_validator_modules.proofs.validator.Validator.gather_body.Goals as goal
 
 pub take-requires : goal.take-requires

@@ -5,7 +5,7 @@ use Rattle.wasm_validator_states.specs.WasmValidatorSections.WasmValidatorCore.A
 use Rattle.wasm_spec_rules.specs.FeatureFlags.{features_of}
 use Rattle.wasm_validator_states.specs.WasmValidatorSections.Machine.{other_items, section_items}
 use Rattle.wasm_validator_states.specs.WasmValidatorSections.WasmValidatorReferences.References.{section_names}
-use Rattle.wasm_validator_states.specs.WasmValidatorSections.Noted.{naming}
+use Rattle.wasm_validator_states.specs.WasmValidatorSections.ModuleNotes.{naming}
 use Rattle.wasm_validator_states.specs.Views.{order_at}
 use Rattle.wasm_validator_states.proofs.SectionMoves.{section_answers, adds_beside, nothing_more}
 use Rattle.wasm_validator_states.proofs.OpenModules.{stays_ready, open-ids, open-first}
@@ -14,8 +14,8 @@ use Rattle.wasm_validator_states.specs.WasmValidatorTypes.Spaces.{Spaces}
 use Rattle.wasm_validator_states.specs.WasmValidatorSections.WasmValidatorCore.declared.error.Error.{Error}
 use Rattle.wasm_readers_errors.specs.Refusals.{plain}
 use Rattle.wasm_readers_errors.specs.declared.error.Fault.TheVariants as fault
-use Rattle.wasm_validator_states.specs.WasmValidatorSections.SectionsTold.{TellsImports}
-use Rattle.wasm_validator_states.proofs.ToldMoves.{told_within, order_within}
+use Rattle.wasm_validator_states.specs.WasmValidatorSections.SectionFaults.{TellsImports}
+use Rattle.wasm_validator_states.proofs.SectionAnswers.{told_within, order_within}
 use Rattle.wasm_validator_modules.proofs.validator.Validator.import_section.Goals as goal
 
 pub add_imports-added-requires : goal.add_imports-added-requires

@@ -1,20 +1,20 @@
 use Rattle.std.proofs.Common.{◌≡◌, refl, sym, ap, subst, ◌∙◌, ◌≤◌, arith, Option, None, List, [], ◌++◌, length}
 use Rattle.wasm_validator_states.specs.WasmParser.Places.{starts_at, ends_at, input_end}
-use Rattle.wasm_validator_states.specs.WasmParser.Seen.{seen, state}
-use Rattle.wasm_validator_states.proofs.WasmParser.Falls.{falls}
+use Rattle.wasm_validator_states.specs.WasmParser.PayloadViews.{seen, state}
+use Rattle.wasm_validator_states.proofs.WasmParser.PieceCounts.{falls}
 use Rattle.wasm_validator_states.specs.WasmValidatorTypes.declared.shown.Types.{Types}
 use Rattle.wasm_validator_modules.specs.declared.payload.Bodies.{Bodies}
 use Rattle.wasm_validator_states.specs.States.{BodyToValidate}
 use Rattle.wasm_validator_states.specs.Payloads.{Runs}
-use Rattle.wasm_validator_modules.specs.Given.{bodies_seen, bodies_given, latest_of, IsGivenIn, AllEndBy}
+use Rattle.wasm_validator_modules.specs.PayloadAnswers.{bodies_seen, bodies_given, latest_of, IsGivenIn, AllEndBy}
 use Rattle.wasm_validator_states.specs.WasmParser.Machine.{State}
-use Rattle.wasm_validator_states.proofs.GoingOn.{refused_nothing}
-use Rattle.wasm_validator_states.proofs.Together.{Together, is_on, together_step, refused_together, stuck_together}
+use Rattle.wasm_validator_states.proofs.ParserProgress.{refused_nothing}
+use Rattle.wasm_validator_states.proofs.ParserAndValidator.{Together, is_on, together_step, refused_together, stuck_together}
 use Rattle.wasm_validator_modules.proofs.Bodies.{none_ends_by, given_wider, nothing_seen}
 use Rattle.wasm_validator_modules.proofs.KeptContext.{IsInKept, given_in, kept_in}
-use Rattle.wasm_validator_states.proofs.Growing.{same_features}
+use Rattle.wasm_validator_states.proofs.ListGrowth.{same_features}
 use Rattle.wasm_validator_modules.proofs.Runs.{Progress, begun, progress-step, accepted, has_ended, refused_format, rejected_payload, between_wider}
-use Rattle.wasm_validator_modules.proofs.Gathering.{refused_gathering}
+use Rattle.wasm_validator_modules.proofs.BodyPayloads.{refused_gathering}
 use Rattle.wasm_validator_modules.proofs.validator.Validator.run.Goals as goal
 
 pub payloads-init : goal.payloads-init

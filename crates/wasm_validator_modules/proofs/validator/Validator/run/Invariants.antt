@@ -1,9 +1,9 @@
 use Rattle.std.proofs.Common.{◌≡◌, length}
 use Rattle.wasm_validator_states.specs.WasmParser.Places.{ReadsInput, input_end}
-use Rattle.wasm_validator_states.specs.WasmParser.Seen.{state}
+use Rattle.wasm_validator_states.specs.WasmParser.PayloadViews.{state}
 use Rattle.wasm_validator_states.specs.WasmParser.Machine.{most_left}
-use Rattle.wasm_validator_modules.specs.Given.{bodies_seen, AllEndBy}
-use Rattle.wasm_validator_states.proofs.Together.{Together}
+use Rattle.wasm_validator_modules.specs.PayloadAnswers.{bodies_seen, AllEndBy}
+use Rattle.wasm_validator_states.proofs.ParserAndValidator.{Together}
 use Rattle.wasm_validator_modules.proofs.KeptContext.{IsInKept}
 use Rattle.wasm_validator_modules.proofs.Runs.{Progress}
 use Rattle.wasm_validator_modules.proofs.validator.Validator.run.Given as goal

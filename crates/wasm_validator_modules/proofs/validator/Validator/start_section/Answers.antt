@@ -1,5 +1,5 @@
 use Rattle.std.proofs.Common.{sym, subst}
-use Rattle.wasm_validator_states.specs.Ready.{AreIdsIn, AreValidIn, AreFirstIn}
+use Rattle.wasm_validator_states.specs.ModuleInvariants.{AreIdsIn, AreValidIn, AreFirstIn}
 use Rattle.wasm_validator_states.proofs.OpenModules.{open-ids, open-valid, open-first, kept-ids, kept-valid, kept-first}
 use Rattle.std.proofs.Common.{rules}
 use Rattle.wasm_readers_errors.specs.WasmReadersFeatures.declared.features.WasmFeatures.{WasmFeatures}
@@ -7,9 +7,9 @@ use Rattle.wasm_validator_states.specs.WasmValidatorTypeList.DefTypes.{types_of_
 use Rattle.wasm_validator_states.specs.WasmValidatorTypes.Spaces.{Spaces}
 use Rattle.wasm_validator_states.specs.WasmValidatorSections.WasmValidatorCore.declared.error.Error.{Error}
 use Rattle.wasm_validator_states.specs.WasmValidatorSections.WasmValidatorCore.Answers.{TypesSoFar}
-use Rattle.wasm_validator_states.specs.WasmValidatorSections.WasmValidatorCore.Told.{told_of_start}
-use Rattle.wasm_validator_states.specs.OrderTold.{TellsStart}
-use Rattle.wasm_validator_states.proofs.ToldMoves.{all_told_within, checked_told}
+use Rattle.wasm_validator_states.specs.WasmValidatorSections.WasmValidatorCore.AddedItemRefusals.{told_of_start}
+use Rattle.wasm_validator_states.specs.OrderRefusals.{TellsStart}
+use Rattle.wasm_validator_states.proofs.SectionAnswers.{all_told_within, checked_told}
 use Rattle.wasm_validator_modules.proofs.validator.Validator.start_section.Goals as goal
 
 pub check_start-answer-requires : goal.check_start-answer-requires

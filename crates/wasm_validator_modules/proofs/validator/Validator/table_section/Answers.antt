@@ -9,38 +9,38 @@ use Rattle.wasm_validator_states.specs.WasmValidatorTypes.Spaces.{Spaces}
 use Rattle.wasm_validator_states.specs.WasmValidatorSections.WasmValidatorCore.declared.error.Error.{Error}
 use Rattle.wasm_validator_states.specs.WasmValidatorSections.WasmValidatorCore.Answers.{TypesSoFar, HasValidTypes}
 use Rattle.wasm_validator_states.specs.WasmValidatorSections.Machine.{other_items, section_items}
-use Rattle.wasm_validator_states.specs.WasmValidatorSections.SectionsTold.{TellsTables}
+use Rattle.wasm_validator_states.specs.WasmValidatorSections.SectionFaults.{TellsTables}
 use Rattle.wasm_validator_states.specs.WasmValidatorSections.WasmValidatorReferences.References.{section_names}
-use Rattle.wasm_validator_states.specs.WasmValidatorSections.Noted.{naming}
+use Rattle.wasm_validator_states.specs.WasmValidatorSections.ModuleNotes.{naming}
 use Rattle.wasm_validator_states.specs.Views.{order_at}
 use Rattle.wasm_validator_states.proofs.SectionMoves.{section_answers, adds_beside}
 use Rattle.wasm_validator_states.proofs.OpenModules.{stays_ready, open-ids, open-first}
-use Rattle.wasm_validator_states.proofs.ToldMoves.{told_within, order_within}
+use Rattle.wasm_validator_states.proofs.SectionAnswers.{told_within, order_within}
 use Rattle.wasm_validator_modules.proofs.validator.Validator.table_section.Goals as goal
 
-pub take_tables-added-requires-clause-held : goal.take_tables-added-requires-clause-held
-take_tables-added-requires-clause-held g c = let ids = open-ids c.self.inside.types c.self.inside.state c.in-Ok.state.«module» c.in-Ok.ensures.ok c.self.invariant.ids in ids.known
+pub add_tables-added-requires-clause-held : goal.add_tables-added-requires-clause-held
+add_tables-added-requires-clause-held g c = let ids = open-ids c.self.inside.types c.self.inside.state c.in-Ok.state.«module» c.in-Ok.ensures.ok c.self.invariant.ids in ids.known
 
-pub take_tables-added-requires-clause-first : goal.take_tables-added-requires-clause-first
-take_tables-added-requires-clause-first g c = open-first c.self.inside.types c.self.inside.constants.types c.self.inside.state c.in-Ok.state.«module» c.in-Ok.ensures.ok c.self.invariant.first
+pub add_tables-added-requires-clause-first : goal.add_tables-added-requires-clause-first
+add_tables-added-requires-clause-first g c = open-first c.self.inside.types c.self.inside.constants.types c.self.inside.state c.in-Ok.state.«module» c.in-Ok.ensures.ok c.self.invariant.first
 
 pub invariant_of-self : goal.invariant_of-self
 invariant_of-self g c =
-    let stays = stays_ready c.self.inside.features c.self.inside.types c.take_tables-added.new.constants.types c.self.inside.state c.put_back.new.state c.in-Ok.state.«module» c.take_tables-added.new.state c.take_tables-added.result
-    c.in-Ok.ensures.ok c.self.invariant.ids c.self.invariant.valid c.take_tables-added.ensures.first c.take_tables-added.ensures.types c.put_back.ensures.kept in
+    let stays = stays_ready c.self.inside.features c.self.inside.types c.add_tables-added.new.constants.types c.self.inside.state c.put_back.new.state c.in-Ok.state.«module» c.add_tables-added.new.state c.add_tables-added.result
+    c.in-Ok.ensures.ok c.self.invariant.ids c.self.invariant.valid c.add_tables-added.ensures.first c.add_tables-added.ensures.types c.put_back.ensures.kept in
     record { list = c.self.invariant.list; ids = stays.0; valid = stays.1; first = stays.2 }
 
 pub returns-in-Ok-clause-moves : goal.returns-in-Ok-clause-moves
 returns-in-Ok-clause-moves g c =
     section_answers c.self.inside.id c.self.inside.features (types_of_list c.self.inside.types) c.in-Ok.state (naming (section_names 4 (count_of c.args.section.now) (bytes_of c.args.section.now))) (λ g. section_items g 4 (count_of c.args.section.now) (bytes_of c.args.section.now))
-    c.self.inside.state c.put_back.new.state c.take_tables-added.result c.put_back.result (types_of_list c.self.inside.types) c.take_tables-added.new.state c.args.self.now c.in-Ok.ensures.was c.self.view_is
-    (adds_beside (HasValidTypes c.self.inside.features) (types_of_list c.self.inside.types) c.take_tables-added.result (other_items (features_of c.self.inside.features) (types_of_list c.self.inside.types) 4 (count_of c.args.section.now) (bytes_of c.args.section.now) c.in-Ok.state.«module») c.take_tables-added.new.state.«module» c.take_tables-added.ensures.added)
-    c.take_tables-added.ensures.noted c.put_back.ensures.kept c.put_back.ensures.same
+    c.self.inside.state c.put_back.new.state c.add_tables-added.result c.put_back.result (types_of_list c.self.inside.types) c.add_tables-added.new.state c.args.self.now c.in-Ok.ensures.was c.self.view_is
+    (adds_beside (HasValidTypes c.self.inside.features) (types_of_list c.self.inside.types) c.add_tables-added.result (other_items (features_of c.self.inside.features) (types_of_list c.self.inside.types) 4 (count_of c.args.section.now) (bytes_of c.args.section.now) c.in-Ok.state.«module») c.add_tables-added.new.state.«module» c.add_tables-added.ensures.added)
+    c.add_tables-added.ensures.noted c.put_back.ensures.kept c.put_back.ensures.same
 
 pub returns-in-Ok-clause-told : goal.returns-in-Ok-clause-told
 returns-in-Ok-clause-told g c =
     let tells : WasmFeatures → TypesSoFar → Spaces → Error g.row.A.Denot → Type 0 = λ (f : WasmFeatures) (us : TypesSoFar) (m : Spaces) (e : Error g.row.A.Denot). TellsTables c.args.section.now f m e in
-    told_within c.self.inside.id c.self.inside.features (types_of_list c.self.inside.types) c.self.inside.state c.in-Ok.state.«module» tells (section_start c.args.section.now) c.args.self.now c.take_tables-added.result c.put_back.result c.in-Ok.ensures.ok c.self.view_is c.put_back.ensures.same c.take_tables-added.ensures.told
+    told_within c.self.inside.id c.self.inside.features (types_of_list c.self.inside.types) c.self.inside.state c.in-Ok.state.«module» tells (section_start c.args.section.now) c.args.self.now c.add_tables-added.result c.put_back.result c.in-Ok.ensures.ok c.self.view_is c.put_back.ensures.same c.add_tables-added.ensures.told
 
 pub returns-in-Err-clause-told : goal.returns-in-Err-clause-told
 returns-in-Err-clause-told g c =

@@ -12,15 +12,15 @@ use Rattle.wasm_validator_states.specs.WasmValidatorSections.WasmValidatorCore.d
 use Rattle.wasm_validator_states.specs.WasmValidatorSections.WasmValidatorCore.Answers.{TypesSoFar, HasValidTypes}
 use Rattle.wasm_validator_states.specs.States.{after_section}
 use Rattle.wasm_validator_states.specs.Views.{order_at, stage_of}
-use Rattle.wasm_validator_states.specs.OrderTold.{TellsWithin}
-use Rattle.wasm_validator_states.specs.WasmValidatorSections.SectionsTold.{OfContent, Either, TellsTags}
-use Rattle.wasm_validator_states.proofs.ToldMoves.{told_within, order_within}
+use Rattle.wasm_validator_states.specs.OrderRefusals.{TellsWithin}
+use Rattle.wasm_validator_states.specs.WasmValidatorSections.SectionFaults.{OfContent, Either, TellsTags}
+use Rattle.wasm_validator_states.proofs.SectionAnswers.{told_within, order_within}
 use Rattle.wasm_validator_states.specs.WasmValidatorTypeList.DefTypes.{types_of_list}
 use Rattle.wasm_spec_rules.specs.FeatureFlags.{features_of}
 use Rattle.wasm_validator_states.specs.WasmValidatorSections.Machine.{other_items, section_items}
 use Rattle.wasm_validator_states.specs.WasmValidatorSections.WasmValidatorReferences.References.{section_names}
-use Rattle.wasm_validator_states.specs.WasmValidatorSections.Noted.{naming}
-use Rattle.wasm_validator_states.specs.Standing.{Standing, Leaves}
+use Rattle.wasm_validator_states.specs.WasmValidatorSections.ModuleNotes.{naming}
+use Rattle.wasm_validator_states.specs.ValidatorStages.{Standing, Leaves}
 use Rattle.wasm_validator_states.proofs.SectionMoves.{section_answers, adds_beside, tags_refused, nothing_more}
 use Rattle.wasm_validator_states.proofs.OpenModules.{stays_ready, open-ids, open-first}
 use Rattle.wasm_validator_modules.proofs.validator.Validator.tag_section.Goals as goal

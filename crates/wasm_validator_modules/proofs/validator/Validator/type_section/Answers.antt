@@ -3,15 +3,15 @@ use Rattle.wasm_readers.specs.SectionsSeen.{count_of, bytes_of, section_start, s
 use Rattle.wasm_validator_states.specs.WasmValidatorTypeList.DefTypes.{types_of_list}
 use Rattle.wasm_validator_states.specs.WasmValidatorSections.Machine.{section_items}
 use Rattle.wasm_validator_states.specs.WasmValidatorSections.WasmValidatorReferences.References.{section_names}
-use Rattle.wasm_validator_states.specs.WasmValidatorSections.Noted.{naming}
-use Rattle.wasm_validator_states.specs.Standing.{Standing, Moves}
+use Rattle.wasm_validator_states.specs.WasmValidatorSections.ModuleNotes.{naming}
+use Rattle.wasm_validator_states.specs.ValidatorStages.{Standing, Moves}
 use Rattle.wasm_validator_states.specs.States.{after_section}
 use Rattle.wasm_validator_states.specs.Views.{stage_of, order_at}
 use Rattle.wasm_validator_states.proofs.OpenModules.{open-ids, open-valid, open-first, added-ids, added-valid}
 use Rattle.wasm_validator_states.proofs.SectionMoves.{section_moves, nothing_more}
 use Rattle.std.specs.Prelude.{IfErr}
 use Rattle.wasm_validator_states.specs.WasmValidatorSections.declared.module_state.ModuleState.{ModuleState}
-use Rattle.wasm_validator_states.specs.Ready.{AreIdsIn, AreValidIn, AreFirstIn}
+use Rattle.wasm_validator_states.specs.ModuleInvariants.{AreIdsIn, AreValidIn, AreFirstIn}
 use Rattle.wasm_validator_states.proofs.KeptTypes.{grown-first}
 use Rattle.wasm_readers_errors.specs.WasmReadersFeatures.declared.features.WasmFeatures.{WasmFeatures}
 use Rattle.wasm_validator_states.specs.WasmValidatorTypes.Spaces.{Spaces}
@@ -19,8 +19,8 @@ use Rattle.wasm_validator_states.specs.WasmValidatorSections.WasmValidatorCore.d
 use Rattle.wasm_validator_states.specs.WasmValidatorSections.WasmValidatorCore.Answers.{TypesSoFar}
 use Rattle.wasm_readers_errors.specs.Refusals.{plain}
 use Rattle.wasm_readers_errors.specs.declared.error.Fault.TheVariants as fault
-use Rattle.wasm_validator_states.specs.WasmValidatorSections.SectionsTold.{StandsBetween, TellsTypes}
-use Rattle.wasm_validator_states.proofs.ToldMoves.{told_within, order_within}
+use Rattle.wasm_validator_states.specs.WasmValidatorSections.SectionFaults.{StandsBetween, TellsTypes}
+use Rattle.wasm_validator_states.proofs.SectionAnswers.{told_within, order_within}
 use Rattle.wasm_validator_modules.proofs.validator.Validator.type_section.Goals as goal
 
 pub add_types-added-requires-clause-ids : goal.add_types-added-requires-clause-ids

@@ -2,9 +2,9 @@ use Rattle.std.proofs.Common.{◌≡◌, true, false, None, refl, sym, ap, subst
 use Rattle.std.specs.Prelude.{IsSome}
 use Rattle.wasm_spec_rules.specs.FeatureFlags.{features_of}
 use Rattle.wasm_validator_states.specs.WasmValidatorTypeList.DefTypes.{types_of_list}
-use Rattle.wasm_validator_states.specs.WasmValidatorTypes.Shown.{shown_by}
+use Rattle.wasm_validator_states.specs.WasmValidatorTypes.ShownModules.{shown_by}
 use Rattle.wasm_validator_states.proofs.OpenModules.{lent-ids, shown_from_open, none-shows}
-use Rattle.wasm_validator_states.specs.Standing.{Standing, shown_at}
+use Rattle.wasm_validator_states.specs.ValidatorStages.{Standing, shown_at}
 use Rattle.wasm_validator_modules.proofs.validator.Validator.types.Goals as goal
 
 pub returns-in-Some-clause-held : goal.returns-in-Some-clause-held

@@ -1,4 +1,4 @@
-use Rattle.wasm_validator_states.proofs.HeldApart.{stands_apart}
+use Rattle.wasm_validator_states.proofs.DistinctTypes.{stands_apart}
 use Rattle.wasm_validator_modules.proofs.validator.Validator.types_stand_apart.Goals as goal
 
 pub returns : goal.returns

@@ -2,7 +2,7 @@ use Rattle.std.proofs.Common.{sym, subst, ◌∙◌, ◌<◌, true≢false, leng
 use Rattle.std.proofs.lemmas.List.Elements.{All-nil}
 use Rattle.wasm_validator_states.specs.WasmValidatorTypeList.DefTypes.{types_of_list}
 use Rattle.wasm_validator_states.specs.WasmValidatorTypes.Spaces.{Spaces}
-use Rattle.wasm_validator_states.specs.WasmValidatorSections.WasmValidatorCore.Ready.{AreIdsOf}
+use Rattle.wasm_validator_states.specs.WasmValidatorSections.WasmValidatorCore.OpenLists.{AreIdsOf}
 use Rattle.wasm_validator_states.proofs.OpenModules.{unparsed-valid, unparsed-first}
 use Rattle.wasm_validator_modules.proofs.validator.Validator.version.Goals.{in-Unparsed, in_default}
 use Rattle.wasm_validator_modules.proofs.validator.Validator.version.Goals as goal

@@ -6,8 +6,8 @@ use Rattle.wasm_readers_bytes.specs.Reader.{input, position_in, rest}
 use Rattle.wasm_readers.specs.Items.{export_of}
 use Rattle.wasm_validator_type_list.specs.DefTypes.{types_of_list}
 use Rattle.wasm_validator_items.specs.WasmValidatorCore.Items.{add_export}
-use Rattle.wasm_validator_sections.specs.SectionsTold.{TellsOfExport}
-use Rattle.wasm_validator_sections.proofs.Exporting.{told_named}
+use Rattle.wasm_validator_sections.specs.SectionFaults.{TellsOfExport}
+use Rattle.wasm_validator_sections.proofs.ExportAnswers.{told_named}
 use Rattle.wasm_validator_sections.proofs.PlainSections.{told_of_read}
 use Rattle.wasm_validator_sections.proofs.plain_items.ExportItemsSectionItem.add_next.Goals as goal
 

@@ -1,13 +1,13 @@
 use Rattle.std.proofs.Common.{◌≤◌, length, arith}
 use Rattle.wasm_spec.specs.BinaryTypes.{rec_at}
 use Rattle.wasm_readers_bytes.specs.Reader.{input, position_in, rest}
-use Rattle.wasm_readers.specs.Written.{written}
+use Rattle.wasm_readers.specs.WrittenIndices.{written}
 use Rattle.wasm_readers_types.specs.SeenTypes.{rec_of}
 use Rattle.wasm_validator_type_list.specs.DefTypes.{types_of_list}
 use Rattle.wasm_validator_items.specs.WasmValidatorCore.Answers.{HasValidTypes}
 use Rattle.wasm_validator_items.specs.WasmValidatorCore.Machine.{add_group}
-use Rattle.wasm_validator_sections.specs.SectionsTold.{TellsOfGroup}
-use Rattle.wasm_validator_sections.proofs.GroupsGrow.{group_tells}
+use Rattle.wasm_validator_sections.specs.SectionFaults.{TellsOfGroup}
+use Rattle.wasm_validator_sections.proofs.GroupGrowth.{group_tells}
 use Rattle.wasm_validator_sections.proofs.PlainSections.{adds_read, told_where}
 use Rattle.wasm_validator_sections.proofs.plain_items.GroupItemsSectionItem.add_next.Goals as goal
 

@@ -3,12 +3,12 @@ use Rattle.wasm_spec.specs.BinaryModules.{Import, import_at}
 use Rattle.wasm_spec_rules.specs.FeatureFlags.{features_of}
 use Rattle.wasm_readers_bytes.specs.Reader.{input, position_in, rest}
 use Rattle.wasm_readers.specs.Items.{import_of}
-use Rattle.wasm_readers.specs.Written.{written}
+use Rattle.wasm_readers.specs.WrittenIndices.{written}
 use Rattle.wasm_readers_types.specs.WasmReadersValues.declared.indices.UnpackedIndex.{UnpackedIndex}
 use Rattle.wasm_validator_type_list.specs.DefTypes.{types_of_list}
 use Rattle.wasm_validator_types.specs.Spaces.{Spaces}
 use Rattle.wasm_validator_items.specs.WasmValidatorCore.Items.{add_import}
-use Rattle.wasm_validator_items.specs.WasmValidatorCore.Told.{told_of_import}
+use Rattle.wasm_validator_items.specs.WasmValidatorCore.AddedItemRefusals.{told_of_import}
 use Rattle.wasm_validator_sections.proofs.PlainSections.{told_of_added}
 use Rattle.wasm_validator_sections.proofs.plain_items.ImportItemsSectionItem.add_next.Goals as goal
 

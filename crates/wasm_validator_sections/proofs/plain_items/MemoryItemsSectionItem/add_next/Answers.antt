@@ -4,7 +4,7 @@ use Rattle.wasm_spec_rules.specs.FeatureFlags.{features_of}
 use Rattle.wasm_readers_bytes.specs.Reader.{input, position_in, rest}
 use Rattle.wasm_readers_types.specs.SeenExterns.{memory_of}
 use Rattle.wasm_validator_items.specs.WasmValidatorCore.Items.{add_memory}
-use Rattle.wasm_validator_items.specs.WasmValidatorCore.Told.{told_of_added_memory}
+use Rattle.wasm_validator_items.specs.WasmValidatorCore.AddedItemRefusals.{told_of_added_memory}
 use Rattle.wasm_validator_sections.proofs.PlainSections.{told_of_added}
 use Rattle.wasm_validator_sections.proofs.plain_items.MemoryItemsSectionItem.add_next.Goals as goal
 

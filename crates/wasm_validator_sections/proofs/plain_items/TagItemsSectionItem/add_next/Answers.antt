@@ -5,7 +5,7 @@ use Rattle.wasm_readers_bytes.specs.Reader.{input, position_in, rest}
 use Rattle.wasm_validator_type_list.specs.DefTypes.{types_of_list}
 use Rattle.wasm_validator_types.specs.Spaces.{Spaces}
 use Rattle.wasm_validator_items.specs.WasmValidatorCore.Items.{add_tag}
-use Rattle.wasm_validator_items.specs.WasmValidatorCore.Told.{told_of_added_tag}
+use Rattle.wasm_validator_items.specs.WasmValidatorCore.AddedItemRefusals.{told_of_added_tag}
 use Rattle.wasm_validator_sections.proofs.PlainSections.{told_of_added}
 use Rattle.wasm_validator_sections.proofs.plain_items.TagItemsSectionItem.add_next.Goals as goal
 

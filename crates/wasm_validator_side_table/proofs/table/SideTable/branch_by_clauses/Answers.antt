@@ -6,8 +6,8 @@ use Rattle.wasm_operators.specs.SeenLists.{GivesFront, items_left}
 use Rattle.wasm_operators.specs.declared.control.Catch.{Catch}
 use Rattle.wasm_validator_resources.specs.Answers.{written_index}
 use Rattle.wasm_spec_side_tables.specs.SideTables.{catching_to, catch_label}
-use Rattle.wasm_validator_side_table.specs.Shown.{shown}
-use Rattle.wasm_validator_side_table.proofs.Planning.{goes_on}
+use Rattle.wasm_validator_side_table.specs.TableViews.{shown}
+use Rattle.wasm_validator_side_table.proofs.BranchNotes.{goes_on}
 use Rattle.wasm_validator_side_table.proofs.table.SideTable.branch_by_clauses.Goals as goal
 
 pub clauses-preserved : goal.clauses-preserved

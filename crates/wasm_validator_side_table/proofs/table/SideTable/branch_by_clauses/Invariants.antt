@@ -5,7 +5,7 @@ use Rattle.wasm_operators.specs.SeenControl.{block_of}
 use Rattle.wasm_operators.specs.SeenLists.{items_left}
 use Rattle.wasm_validator_resources.specs.Answers.{written_index}
 use Rattle.wasm_spec_side_tables.specs.SideTables.{catching_to, catch_label}
-use Rattle.wasm_validator_side_table.specs.Shown.{shown, planned_in}
+use Rattle.wasm_validator_side_table.specs.TableViews.{shown, planned_in}
 use Rattle.wasm_validator_side_table.proofs.table.SideTable.branch_by_clauses.Given as goal
 
 abbrev pub invariant-clauses : goal.invariant-clauses

@@ -1,5 +1,5 @@
-use Rattle.wasm_validator_side_table.specs.Shown.{shown}
-use Rattle.wasm_validator_side_table.proofs.Handling.{on_ok, handler_alone}
+use Rattle.wasm_validator_side_table.specs.TableViews.{shown}
+use Rattle.wasm_validator_side_table.proofs.HandlerNotes.{on_ok, handler_alone}
 use Rattle.wasm_validator_side_table.proofs.table.SideTable.branch_by_handler.Goals as goal
 
 pub returns-in-Some-clause-planned : goal.returns-in-Some-clause-planned

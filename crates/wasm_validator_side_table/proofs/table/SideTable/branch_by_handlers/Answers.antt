@@ -1,8 +1,8 @@
 use Rattle.std.proofs.Common.{◌∙◌, Some, rules}
 use Rattle.wasm_operators.specs.Continuations.{handle_at}
 use Rattle.wasm_operators.specs.SeenLists.{GivesFront, items_left}
-use Rattle.wasm_validator_side_table.specs.Shown.{shown}
-use Rattle.wasm_validator_side_table.proofs.Handling.{goes_on}
+use Rattle.wasm_validator_side_table.specs.TableViews.{shown}
+use Rattle.wasm_validator_side_table.proofs.HandlerNotes.{goes_on}
 use Rattle.wasm_validator_side_table.proofs.table.SideTable.branch_by_handlers.Goals as goal
 
 pub handlers-preserved : goal.handlers-preserved

@@ -1,10 +1,10 @@
 use Rattle.std.proofs.Common.{◌≡◌, length}
 use Rattle.wasm_operators.specs.Continuations.{handle_at}
 use Rattle.wasm_operators.specs.SeenLists.{items_left}
-use Rattle.wasm_operator_steps.specs.Actions.{OperandTypes}
+use Rattle.wasm_spec_steps.specs.Actions.{OperandTypes}
 use Rattle.wasm_spec_side_tables.specs.SideTables.{handle_branches}
-use Rattle.wasm_validator_side_table.specs.Shown.{shown, planned_in}
-use Rattle.wasm_validator_side_table.specs.Taken.{AreSoMany}
+use Rattle.wasm_validator_side_table.specs.TableViews.{shown, planned_in}
+use Rattle.wasm_validator_side_table.specs.ResumeOperands.{AreSoMany}
 use Rattle.wasm_validator_side_table.proofs.table.SideTable.branch_by_handlers.Given as goal
 
 abbrev pub invariant-handlers : goal.invariant-handlers

@@ -2,8 +2,8 @@ use Rattle.std.proofs.Common.{◌∙◌, ℕ, map}
 use Rattle.wasm_spec.specs.Values.{u32_at}
 use Rattle.wasm_operators.specs.SeenLists.{listed}
 use Rattle.wasm_spec_side_tables.specs.SideTables.{to_label}
-use Rattle.wasm_validator_side_table.specs.Shown.{shown}
-use Rattle.wasm_validator_side_table.proofs.Planning.{planned_last}
+use Rattle.wasm_validator_side_table.specs.TableViews.{shown}
+use Rattle.wasm_validator_side_table.proofs.BranchNotes.{planned_last}
 use Rattle.wasm_validator_side_table.proofs.table.SideTable.branch_by_table.Goals as goal
 
 pub returns-in_Ok-self-clause-planned : goal.returns-in_Ok-self-clause-planned

@@ -2,8 +2,8 @@ use Rattle.std.proofs.Common.{◌∙◌, ℕ, Some, rules}
 use Rattle.wasm_spec.specs.Values.{u32_at}
 use Rattle.wasm_operators.specs.SeenLists.{GivesFront, items_left}
 use Rattle.wasm_spec_side_tables.specs.SideTables.{to_label}
-use Rattle.wasm_validator_side_table.specs.Shown.{shown}
-use Rattle.wasm_validator_side_table.proofs.Planning.{goes_on}
+use Rattle.wasm_validator_side_table.specs.TableViews.{shown}
+use Rattle.wasm_validator_side_table.proofs.BranchNotes.{goes_on}
 use Rattle.wasm_validator_side_table.proofs.table.SideTable.branch_to_each.Goals as goal
 
 pub labels-preserved : goal.labels-preserved

@@ -2,7 +2,7 @@ use Rattle.std.proofs.Common.{◌≡◌, map, length}
 use Rattle.wasm_spec.specs.Values.{u32_at}
 use Rattle.wasm_operators.specs.SeenLists.{items_left}
 use Rattle.wasm_spec_side_tables.specs.SideTables.{to_label}
-use Rattle.wasm_validator_side_table.specs.Shown.{shown, planned_in}
+use Rattle.wasm_validator_side_table.specs.TableViews.{shown, planned_in}
 use Rattle.wasm_validator_side_table.proofs.table.SideTable.branch_to_each.Given as goal
 
 abbrev pub invariant-labels : goal.invariant-labels

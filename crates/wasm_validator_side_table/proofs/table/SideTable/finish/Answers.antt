@@ -1,7 +1,7 @@
 use Rattle.std.proofs.Common.{◌≡◌, ◌<◌, ◌∙◌, ap, List, get_or, length, Some, None, rules}
 use Rattle.wasm_spec_side_tables.specs.declared.entry.Place.{Place}
-use Rattle.wasm_spec_side_tables.specs.Building.{resolved}
-use Rattle.wasm_validator_side_table.proofs.Resolving.{resolves_next, resolves_not}
+use Rattle.wasm_spec_side_tables.specs.OnePassTables.{resolved}
+use Rattle.wasm_validator_side_table.proofs.EntryPlaces.{resolves_next, resolves_not}
 use Rattle.wasm_validator_side_table.proofs.table.SideTable.finish.Goals as goal
 
 pub entries-preserved : goal.entries-preserved

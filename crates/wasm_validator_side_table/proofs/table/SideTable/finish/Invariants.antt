@@ -1,5 +1,5 @@
 use Rattle.std.proofs.Common.{◌≡◌, ◌-◌, [], length}
-use Rattle.wasm_validator_side_table.proofs.Resolving.{Resolves}
+use Rattle.wasm_validator_side_table.proofs.EntryPlaces.{Resolves}
 use Rattle.wasm_validator_side_table.proofs.table.SideTable.finish.Given as goal
 
 abbrev pub invariant-entries : goal.invariant-entries

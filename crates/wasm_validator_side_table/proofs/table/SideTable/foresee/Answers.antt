@@ -1,7 +1,7 @@
 use Rattle.std.proofs.Common.{◌≡◌, rules, tests}
 use Rattle.wasm_readers.specs.WasmReadersBytes.Reader.{rest}
-use Rattle.wasm_validator_side_table.specs.Shown.{shown}
-use Rattle.wasm_validator_side_table.proofs.Foreseeing.{foresees_opens, foresees_loop, foresees_end}
+use Rattle.wasm_validator_side_table.specs.TableViews.{shown}
+use Rattle.wasm_validator_side_table.proofs.FirstBytes.{foresees_opens, foresees_loop, foresees_end}
 use Rattle.wasm_validator_side_table.proofs.table.SideTable.foresee.Goals as goal
 
 pub returns-in-2 : goal.returns-in-2

@@ -1,6 +1,6 @@
 use Rattle.wasm_readers.specs.WasmReadersBytes.Reader.{rest}
-use Rattle.wasm_validator_side_table.specs.Shown.{shown}
-use Rattle.wasm_validator_side_table.proofs.Foreseeing.{foresees_branch}
+use Rattle.wasm_validator_side_table.specs.TableViews.{shown}
+use Rattle.wasm_validator_side_table.proofs.FirstBytes.{foresees_branch}
 use Rattle.wasm_validator_side_table.proofs.table.SideTable.foresee_branch.Goals as goal
 
 pub returns-in-Some : goal.returns-in-Some

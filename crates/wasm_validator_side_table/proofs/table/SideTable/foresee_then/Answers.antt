@@ -1,8 +1,8 @@
 use Rattle.std.proofs.Common.{◌≡◌, ◌≤◌, ◌<◌, ◌+◌, ap, ℕ, length, rules, tests}
 use Rattle.wasm_readers.specs.WasmReadersBytes.Reader.{rest}
 use Rattle.wasm_spec_side_tables.specs.declared.entry.Entry.{Entry}
-use Rattle.wasm_validator_side_table.specs.Shown.{shown}
-use Rattle.wasm_validator_side_table.proofs.Foreseeing.{foresees_then}
+use Rattle.wasm_validator_side_table.specs.TableViews.{shown}
+use Rattle.wasm_validator_side_table.proofs.FirstBytes.{foresees_then}
 use Rattle.wasm_validator_side_table.proofs.table.SideTable.foresee_then.Goals as goal
 
 pub returns : goal.returns

@@ -1,5 +1,5 @@
 use Rattle.std.proofs.Common.{Err}
-use Rattle.wasm_validator_side_table.proofs.Reaching.{took_is, took_at}
+use Rattle.wasm_validator_side_table.proofs.NextInstructions.{took_is, took_at}
 use Rattle.wasm_validator_side_table.proofs.table.SideTable.op.Goals as goal
 
 pub returns-in-Ok-raise-clause-took : goal.returns-in-Ok-raise-clause-took

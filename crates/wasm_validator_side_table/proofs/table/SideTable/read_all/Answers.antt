@@ -1,23 +1,23 @@
 use Rattle.std.proofs.Common.{◌≡◌, ◌<◌, ◌∙◌, sym, ap, subst, refl, ℕ, max, length, Some, Err, false, arith, rules, tests}
 use Rattle.wasm_readers.specs.WasmReadersBytes.Reader.{SameInput, position_in, place_of_next, rest}
-use Rattle.wasm_operator_steps.specs.Steps.{is_finished}
+use Rattle.wasm_spec_steps.specs.Steps.{is_finished}
 use Rattle.wasm_readers_types.specs.WasmReadersValues.declared.indices.UnpackedIndex.{UnpackedIndex}
 use Rattle.wasm_spec_rules.specs.Contexts.{Context}
 use Rattle.wasm_validator_resources.specs.Answers.{world}
-use Rattle.wasm_operator_validator.specs.Typed.{typed_state}
-use Rattle.wasm_operator_validator.specs.Checked.{within}
-use Rattle.wasm_operator_stacks.specs.Seen.{Kept}
-use Rattle.wasm_operator_validator.specs.Reads.{ReadsStep, stepped}
-use Rattle.wasm_operator_validator.proofs.Kept.{kept_on, same_kept}
+use Rattle.wasm_typing_validator.specs.BodyTyping.{typed_state}
+use Rattle.wasm_typing_validator.specs.TypedInstructions.{within}
+use Rattle.wasm_typing_stacks.specs.BodyStacks.{Kept}
+use Rattle.wasm_typing_validator.specs.StepsFromBytes.{ReadsStep, stepped}
+use Rattle.wasm_typing_validator.proofs.CodeSurroundings.{kept_on, same_kept}
 use Rattle.wasm_validator_func.specs.Bodies.{instructions_from}
 use Rattle.wasm_validator_func.proofs.Machine.{all_of}
-use Rattle.wasm_validator_side_table.specs.Fast.{AdvancesQuietly}
-use Rattle.wasm_validator_side_table.specs.Shown.{shown}
+use Rattle.wasm_validator_side_table.specs.OperatorNotes.{AdvancesQuietly}
+use Rattle.wasm_validator_side_table.specs.TableViews.{shown}
 use Rattle.wasm_validator_side_table.specs.Tables.{Advances}
-use Rattle.wasm_validator_side_table.proofs.Fasting.{advances_from, advances_on, place_stays}
-use Rattle.wasm_validator_side_table.proofs.Reaching.{reaches_first}
-use Rattle.wasm_validator_side_table.proofs.Reading.{count_more}
-use Rattle.wasm_validator_side_table.proofs.Looping.{table_more, far_more, far_stopped, stepped_same, reaches_at}
+use Rattle.wasm_validator_side_table.proofs.InstructionBytes.{advances_from, advances_on, place_stays}
+use Rattle.wasm_validator_side_table.proofs.NextInstructions.{reaches_first}
+use Rattle.wasm_validator_side_table.proofs.ByteSteps.{count_more}
+use Rattle.wasm_validator_side_table.proofs.BodyLoop.{table_more, far_more, far_stopped, stepped_same, reaches_at}
 use Rattle.wasm_validator_side_table.proofs.table.SideTable.read_all.Goals as goal
 
 pub operators-init : goal.operators-init

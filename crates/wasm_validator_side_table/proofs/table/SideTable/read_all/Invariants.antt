@@ -1,11 +1,11 @@
 use Rattle.std.proofs.Common.{◌≡◌, ◌≤◌, ◌<◌, ℕ, false, length}
 use Rattle.wasm_readers.specs.WasmReadersBytes.Reader.{SameInput, position_in, place_of_next, rest}
 use Rattle.wasm_validator_resources.specs.Answers.{world}
-use Rattle.wasm_operator_stacks.specs.Seen.{Kept}
-use Rattle.wasm_operator_validator.specs.Typed.{typed_state}
-use Rattle.wasm_operator_validator.specs.Checked.{within}
+use Rattle.wasm_typing_stacks.specs.BodyStacks.{Kept}
+use Rattle.wasm_typing_validator.specs.BodyTyping.{typed_state}
+use Rattle.wasm_typing_validator.specs.TypedInstructions.{within}
 use Rattle.wasm_validator_func.specs.Bodies.{typed_from, instructions_from}
-use Rattle.wasm_validator_side_table.specs.Shown.{shown}
+use Rattle.wasm_validator_side_table.specs.TableViews.{shown}
 use Rattle.wasm_validator_side_table.specs.Tables.{Reaches}
 use Rattle.wasm_validator_side_table.proofs.table.SideTable.read_all.Given as goal
 

@@ -2,17 +2,17 @@ use Rattle.std.proofs.Common.{◌≡◌, ◌==◌, ◌∙◌, ap, subst, Some, E
 use Rattle.wasm_spec_rules.specs.Contexts.{Context}
 use Rattle.wasm_readers.specs.WasmReadersBytes.Reader.{place_of_next, rest}
 use Rattle.wasm_readers_types.specs.WasmReadersValues.declared.indices.UnpackedIndex.{UnpackedIndex}
-use Rattle.wasm_parser.specs.Seen.{body_of}
+use Rattle.wasm_parser.specs.PayloadViews.{body_of}
 use Rattle.wasm_validator_resources.specs.Answers.{world}
-use Rattle.wasm_operator_validator.specs.Typed.{typed_state, locals_in}
-use Rattle.wasm_operator_validator.specs.Checked.{within, ReadsTo}
+use Rattle.wasm_typing_validator.specs.BodyTyping.{typed_state, locals_in}
+use Rattle.wasm_typing_validator.specs.TypedInstructions.{within, ReadsTo}
 use Rattle.wasm_validator_func.specs.Bodies.{instructions_from}
-use Rattle.wasm_validator_func.specs.Validated.{body_in, Validates}
-use Rattle.wasm_validator_func.proofs.Whole.{no_locals, some_locals, stopped, ended, goes_past}
-use Rattle.wasm_validator_side_table.specs.Shown.{shown}
+use Rattle.wasm_validator_func.specs.BodyValidation.{body_in, Validates}
+use Rattle.wasm_validator_func.proofs.WholeBodies.{no_locals, some_locals, stopped, ended, goes_past}
+use Rattle.wasm_validator_side_table.specs.TableViews.{shown}
 use Rattle.wasm_validator_side_table.specs.Tables.{Reaches, HasRead}
-use Rattle.wasm_validator_side_table.proofs.Reading.{has_read}
-use Rattle.wasm_validator_side_table.proofs.Whole.{nothing_left}
+use Rattle.wasm_validator_side_table.proofs.ByteSteps.{has_read}
+use Rattle.wasm_validator_side_table.proofs.WholeTables.{nothing_left}
 use Rattle.wasm_validator_side_table.proofs.table.SideTable.read_body.Goals as goal
 
 pub returns-in-Err-clause-took : goal.returns-in-Err-clause-took

@@ -1,8 +1,8 @@
 use Rattle.std.proofs.Common.{◌≡◌, ◌∙◌, subst, ℕ, Some, rules, tests}
 use Rattle.wasm_readers.specs.WasmReadersBytes.Reader.{SameInput, place_of_next, rest}
-use Rattle.wasm_validator_side_table.specs.Shown.{shown, nested_in}
-use Rattle.wasm_validator_side_table.specs.Fast.{Foresees, with_noted, nesting_of}
-use Rattle.wasm_validator_side_table.proofs.Fasting.{noted_so}
+use Rattle.wasm_validator_side_table.specs.TableViews.{shown, nested_in}
+use Rattle.wasm_validator_side_table.specs.OperatorNotes.{Foresees, with_noted, nesting_of}
+use Rattle.wasm_validator_side_table.proofs.InstructionBytes.{noted_so}
 use Rattle.wasm_validator_side_table.proofs.table.SideTable.read_frequent.Goals as goal
 
 pub returns-then-put-clause-advances : goal.returns-then-put-clause-advances

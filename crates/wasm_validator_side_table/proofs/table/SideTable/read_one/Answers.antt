@@ -1,11 +1,11 @@
 use Rattle.std.proofs.Common.{◌∙◌, rules}
 use Rattle.wasm_readers.specs.WasmReadersBytes.Reader.{SameInput, rest}
 use Rattle.wasm_operators.specs.SeenOperators.{operator_of}
-use Rattle.wasm_operator_validator.specs.Typed.{typed_state}
-use Rattle.wasm_operator_validator.proofs.Reading.{not_served}
-use Rattle.wasm_validator_side_table.specs.Shown.{shown}
-use Rattle.wasm_validator_side_table.proofs.Reaching.{advances_is}
-use Rattle.wasm_validator_side_table.proofs.Reading.{step_did, step_not}
+use Rattle.wasm_typing_validator.specs.BodyTyping.{typed_state}
+use Rattle.wasm_typing_validator.proofs.ByteSteps.{not_served}
+use Rattle.wasm_validator_side_table.specs.TableViews.{shown}
+use Rattle.wasm_validator_side_table.proofs.NextInstructions.{advances_is}
+use Rattle.wasm_validator_side_table.proofs.ByteSteps.{step_did, step_not}
 use Rattle.wasm_validator_side_table.proofs.table.SideTable.read_one.Goals as goal
 
 pub returns-in-Ok-op-clause-advances : goal.returns-in-Ok-op-clause-advances

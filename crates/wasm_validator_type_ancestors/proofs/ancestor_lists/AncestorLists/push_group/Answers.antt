@@ -5,7 +5,7 @@ use Rattle.wasm_validator_type_ancestors.specs.declared.entries.Entry.{Entry}
 use Rattle.wasm_validator_type_ancestors.specs.Entries.{supers_of, AreEntries}
 use Rattle.wasm_validator_type_ancestors.proofs.Results.{on_err, either}
 use Rattle.wasm_validator_type_ancestors.proofs.Growth.{entries-kept, supers-kept}
-use Rattle.wasm_validator_type_ancestors.proofs.OneMore.{as-many, says-all}
+use Rattle.wasm_validator_type_ancestors.proofs.AncestorExtensions.{as-many, says-all}
 use Rattle.wasm_validator_type_ancestors.proofs.ancestor_lists.AncestorLists.push_group.Goals as goal
 
 pub invariant_of-self : goal.invariant_of-self

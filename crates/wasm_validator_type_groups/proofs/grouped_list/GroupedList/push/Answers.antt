@@ -1,4 +1,4 @@
-use Rattle.wasm_validator_type_groups.proofs.Flat.{parted-push, cut-pushed}
+use Rattle.wasm_validator_type_groups.proofs.FlatGroups.{parted-push, cut-pushed}
 use Rattle.wasm_validator_type_groups.proofs.grouped_list.GroupedList.push.Goals as goal
 
 pub invariant_of-self-2 : goal.invariant_of-self-2

@@ -1,6 +1,6 @@
 use Rattle.std.proofs.Common.{ap, ◌∙◌}
 use Rattle.wasm_validator_type_groups.specs.Spans.{spans_of}
-use Rattle.wasm_validator_type_groups.proofs.Flat.{spans_are}
+use Rattle.wasm_validator_type_groups.proofs.FlatGroups.{spans_are}
 use Rattle.wasm_validator_type_groups.proofs.grouped_list.GroupedList.spans.Goals as goal
 
 pub returns : goal.returns

@@ -1,5 +1,5 @@
 use Rattle.std.proofs.Common.{◌∙◌, sym, subst, ◌<◌, true≢false}
-use Rattle.wasm_validator_type_groups.proofs.Finding.{IsLeft, steps_left, left-next, steps_fall}
+use Rattle.wasm_validator_type_groups.proofs.HashChains.{IsLeft, steps_left, left-next, steps_fall}
 use Rattle.wasm_validator_type_groups.proofs.known_groups.KnownGroups.find.Goals as goal
 
 pub numbers-smaller : goal.numbers-smaller

@@ -1,4 +1,4 @@
-use Rattle.wasm_validator_type_groups.proofs.Finding.{IsLeft, steps_left}
+use Rattle.wasm_validator_type_groups.proofs.HashChains.{IsLeft, steps_left}
 use Rattle.wasm_validator_type_groups.proofs.known_groups.KnownGroups.find.Given as goal
 
 abbrev pub invariant-numbers : goal.invariant-numbers

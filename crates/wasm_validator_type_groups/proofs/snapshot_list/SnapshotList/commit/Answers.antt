@@ -1,6 +1,6 @@
 use Rattle.std.proofs.Common.{◌≡◌, sym, ap, subst, ◌∙◌, ◌++◌, map, append-nil, append_assoc}
 use Rattle.wasm_validator_type_groups.specs.Parts.{seen, run_seen, all_items, StandFrom}
-use Rattle.wasm_validator_type_groups.proofs.RunsStand.{same_seen, same_runs}
+use Rattle.wasm_validator_type_groups.proofs.PartRuns.{same_seen, same_runs}
 use Rattle.wasm_validator_type_groups.proofs.snapshot_list.SnapshotList.commit.Goals as goal
 
 pub invariant_of-result : goal.invariant_of-result

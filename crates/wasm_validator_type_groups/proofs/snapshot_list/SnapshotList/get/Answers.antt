@@ -2,8 +2,8 @@ use Rattle.std.proofs.Common.{arith, ◌≡◌, ◌-◌, sym, ◌∙◌, refl, m
 use Rattle.std.specs.Prelude.{IfSome, Option, None, Some}
 use Rattle.std.proofs.lemmas.Grind.{common_steps}
 use Rattle.wasm_validator_type_groups.specs.Parts.{seen, run_seen, all_items}
-use Rattle.wasm_validator_type_groups.proofs.Ends.{in_closed, in_open, whole_length}
-use Rattle.wasm_validator_type_groups.proofs.RunsStand.{closed_end}
+use Rattle.wasm_validator_type_groups.proofs.PieceEnds.{in_closed, in_open, whole_length}
+use Rattle.wasm_validator_type_groups.proofs.PartRuns.{closed_end}
 use Rattle.wasm_validator_type_groups.proofs.snapshot_list.SnapshotList.get.Goals as goal
 
 pub returns-then-index-self-clause-found : goal.returns-then-index-self-clause-found

@@ -1,7 +1,7 @@
 use Rattle.std.proofs.Common.{◌+◌, ◌++◌, ◌∙◌, ap, sym, ℕ, map}
 use Rattle.wasm_validator_type_groups.specs.Parts.{seen, run_seen, all_items}
-use Rattle.wasm_validator_type_groups.proofs.Ends.{whole_length}
-use Rattle.wasm_validator_type_groups.proofs.RunsStand.{closed_end}
+use Rattle.wasm_validator_type_groups.proofs.PieceEnds.{whole_length}
+use Rattle.wasm_validator_type_groups.proofs.PartRuns.{closed_end}
 use Rattle.wasm_validator_type_groups.proofs.snapshot_list.SnapshotList.len.Goals as goal
 
 pub returns : goal.returns

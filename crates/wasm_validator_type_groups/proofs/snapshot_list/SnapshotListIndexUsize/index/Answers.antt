@@ -1,7 +1,7 @@
 use Rattle.std.proofs.Common.{arith, ◌≡◌, ◌+◌, ◌++◌, length, map}
 use Rattle.wasm_validator_type_groups.specs.Parts.{seen, run_seen, all_items}
-use Rattle.wasm_validator_type_groups.proofs.Ends.{in_closed, in_open, whole_length}
-use Rattle.wasm_validator_type_groups.proofs.RunsStand.{closed_end}
+use Rattle.wasm_validator_type_groups.proofs.PieceEnds.{in_closed, in_open, whole_length}
+use Rattle.wasm_validator_type_groups.proofs.PartRuns.{closed_end}
 use Rattle.wasm_validator_type_groups.proofs.snapshot_list.SnapshotListIndexUsize.index.Goals as goal
 
 pub index-requires : goal.index-requires

@@ -1,5 +1,5 @@
 use Rattle.wasm_readers_types.specs.WasmReadersValues.SeenValues.{abstract_heap_of}
-use Rattle.wasm_validator_type_list.proofs.Matches.{abstract-decides}
+use Rattle.wasm_validator_type_list.proofs.TypeMatches.{abstract-decides}
 use Rattle.wasm_validator_type_list.proofs.type_list.TypeList.abstract_matches.Goals as goal
 
 pub returns-then-shared-other_shared : goal.returns-then-shared-other_shared

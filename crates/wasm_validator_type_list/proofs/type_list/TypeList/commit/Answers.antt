@@ -1,5 +1,5 @@
 use Rattle.std.proofs.Common.{refl, false}
-use Rattle.wasm_validator_type_list.proofs.Sound.{sound_same, sound_closed, shown_closed}
+use Rattle.wasm_validator_type_list.proofs.ListInvariants.{sound_same, sound_closed, shown_closed}
 use Rattle.wasm_validator_type_list.proofs.type_list.TypeList.commit.Goals as goal
 
 pub invariant_of-result : goal.invariant_of-result

@@ -1,7 +1,7 @@
 use Rattle.std.proofs.Common.{◌<◌, sym, length, get_or}
 use Rattle.std.proofs.lemmas.Option.{slice_get-get_or, get_or_from_slice_get}
 use Rattle.wasm_readers_types.specs.WasmReadersValues.declared.indices.CoreTypeId.{CoreTypeId}
-use Rattle.wasm_validator_type_list.specs.Listing.{types_in}
+use Rattle.wasm_validator_type_list.specs.ListViews.{types_in}
 use Rattle.wasm_validator_type_ancestors.proofs.Items.{none_first, one_more, all_first}
 use Rattle.wasm_validator_type_list.proofs.type_list.TypeList.holds_all.Goals as goal
 

@@ -1,6 +1,6 @@
 use Rattle.std.proofs.Common.{◌<◌, length}
 use Rattle.wasm_readers_types.specs.WasmReadersValues.declared.indices.CoreTypeId.{CoreTypeId}
-use Rattle.wasm_validator_type_list.specs.Listing.{types_in}
+use Rattle.wasm_validator_type_list.specs.ListViews.{types_in}
 use Rattle.wasm_validator_type_ancestors.proofs.Items.{FirstHold}
 use Rattle.wasm_validator_type_list.proofs.type_list.TypeList.holds_all.Given as goal
 

@@ -1,4 +1,4 @@
-use Rattle.wasm_validator_type_list.proofs.Grouped.{known_room, known_there}
+use Rattle.wasm_validator_type_list.proofs.GroupMatching.{known_room, known_there}
 use Rattle.wasm_validator_type_list.proofs.type_list.TypeList.id_at.Goals as goal
 
 pub id_from-requires-clause-room : goal.id_from-requires-clause-room

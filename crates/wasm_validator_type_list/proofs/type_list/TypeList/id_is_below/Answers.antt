@@ -1,6 +1,6 @@
 use Rattle.std.proofs.Common.{◌≤◌, ◌<◌, inl, length, arith}
 use Rattle.wasm_validator_type_ancestors.specs.WasmValidatorTypeGroups.Groups.{all_in}
-use Rattle.wasm_validator_type_list.proofs.Unknown.{unknown_decides, known_apart, test_of_world}
+use Rattle.wasm_validator_type_list.proofs.UnknownIds.{unknown_decides, known_apart, test_of_world}
 use Rattle.wasm_validator_type_list.proofs.type_list.TypeList.id_is_below.Goals as goal
 
 pub returns-then-known-index-clause-decides : goal.returns-then-known-index-clause-decides

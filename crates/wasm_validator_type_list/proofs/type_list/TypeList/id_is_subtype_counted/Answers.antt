@@ -1,6 +1,6 @@
 use Rattle.std.proofs.Common.{ap, arith, length}
-use Rattle.wasm_validator_type_list.specs.Declares.{declares}
-use Rattle.wasm_validator_type_list.specs.Listing.{Listing, types_in}
+use Rattle.wasm_validator_type_list.specs.DeclarationsById.{declares}
+use Rattle.wasm_validator_type_list.specs.ListViews.{Listing, types_in}
 use Rattle.wasm_validator_type_list.proofs.Ancestors.{as_many, ids_tell}
 use Rattle.wasm_validator_type_list.proofs.type_list.TypeList.id_is_subtype_counted.Goals as goal
 

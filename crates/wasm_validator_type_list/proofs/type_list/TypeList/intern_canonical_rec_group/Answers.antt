@@ -3,10 +3,10 @@ use Rattle.std.proofs.Common.{arith, ap, subst, sym, ◌∙◌, ◌≤◌, ◌-�
 use Rattle.wasm_readers_types.specs.WasmReadersValues.declared.indices.TheConstants.{MAX_IDS}
 use Rattle.wasm_validator_type_ancestors.specs.WasmValidatorTypeGroups.Groups.{all_in}
 use Rattle.wasm_validator_type_ancestors.specs.Supers.{extended_in}
-use Rattle.wasm_validator_type_list.specs.Listable.{IsListable, ReferByIds}
+use Rattle.wasm_validator_type_list.specs.GroupOrder.{IsListable, ReferByIds}
 use Rattle.wasm_validator_type_list.proofs.Ancestors.{as_many, extend_earlier}
-use Rattle.wasm_validator_type_list.proofs.Full.{full_missed, full_found, full_fits, known_missed}
-use Rattle.wasm_validator_type_list.proofs.Sound.{group_room, room_of, mode_of, next_of, only_once, place_found, place_missed, sound_same, sound_push, shown_same, interned_found, interned_new}
+use Rattle.wasm_validator_type_list.proofs.FullLists.{full_missed, full_found, full_fits, known_missed}
+use Rattle.wasm_validator_type_list.proofs.ListInvariants.{group_room, room_of, mode_of, next_of, only_once, place_found, place_missed, sound_same, sound_push, shown_same, interned_found, interned_new}
 use Rattle.wasm_validator_type_ancestors.proofs.Results.{on_err}
 use Rattle.wasm_validator_type_list.proofs.type_list.TypeList.intern_canonical_rec_group.Goals as goal
 

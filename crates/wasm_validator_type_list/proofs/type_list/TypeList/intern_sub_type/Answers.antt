@@ -1,4 +1,4 @@
-use Rattle.wasm_validator_type_list.proofs.Sound.{interned_within}
+use Rattle.wasm_validator_type_list.proofs.ListInvariants.{interned_within}
 use Rattle.wasm_validator_type_list.proofs.type_list.TypeList.intern_sub_type.Goals as goal
 
 pub members-requires : goal.members-requires

@@ -1,4 +1,4 @@
-use Rattle.wasm_validator_type_list.proofs.Placed.{apart_in}
+use Rattle.wasm_validator_type_list.proofs.TypePlaces.{apart_in}
 use Rattle.wasm_validator_type_list.proofs.type_list.TypeList.is_canonical.Goals as goal
 
 pub returns-clause-apart : goal.returns-clause-apart

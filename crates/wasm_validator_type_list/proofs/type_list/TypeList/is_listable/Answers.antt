@@ -1,4 +1,4 @@
-use Rattle.wasm_validator_type_list.proofs.Sound.{listable_seen}
+use Rattle.wasm_validator_type_list.proofs.ListInvariants.{listable_seen}
 use Rattle.wasm_validator_type_list.proofs.type_list.TypeList.is_listable.Goals as goal
 
 pub returns : goal.returns

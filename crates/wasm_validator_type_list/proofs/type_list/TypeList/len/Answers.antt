@@ -1,5 +1,5 @@
-use Rattle.wasm_validator_type_list.proofs.Placed.{apart_in}
-use Rattle.wasm_validator_type_list.proofs.Sound.{listable_in}
+use Rattle.wasm_validator_type_list.proofs.TypePlaces.{apart_in}
+use Rattle.wasm_validator_type_list.proofs.ListInvariants.{listable_in}
 use Rattle.wasm_validator_type_list.proofs.type_list.TypeList.len.Goals as goal
 
 pub returns-clause-apart : goal.returns-clause-apart

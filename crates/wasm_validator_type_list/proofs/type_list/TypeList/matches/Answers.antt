@@ -1,5 +1,5 @@
 use Rattle.wasm_validator_type_list.proofs.Relations.{listable_of}
-use Rattle.wasm_validator_type_list.proofs.Composite.{comp_in, declared_match}
+use Rattle.wasm_validator_type_list.proofs.CompositeMatching.{comp_in, declared_match}
 use Rattle.wasm_validator_type_list.proofs.type_list.TypeList.matches.Goals as goal
 
 pub subs_match-requires-clause-sub : goal.subs_match-requires-clause-sub

@@ -1,5 +1,5 @@
 use Rattle.wasm_readers_types.specs.WasmReadersValues.SeenValues.{abstract_heap_of}
-use Rattle.wasm_validator_type_list.proofs.Matches.{kind_seen, kind_unlike}
+use Rattle.wasm_validator_type_list.proofs.TypeMatches.{kind_seen, kind_unlike}
 use Rattle.wasm_validator_type_list.proofs.type_list.TypeList.matches_kind.Goals as goal
 
 pub returns-then-composite-shared : goal.returns-then-composite-shared

@@ -1,5 +1,5 @@
 use Rattle.std.proofs.Common.{refl, true}
-use Rattle.wasm_validator_type_list.proofs.Sound.{sound_none, shown_none}
+use Rattle.wasm_validator_type_list.proofs.ListInvariants.{sound_none, shown_none}
 use Rattle.wasm_validator_type_list.proofs.type_list.TypeList.new.Goals as goal
 
 pub invariant_of-result : goal.invariant_of-result

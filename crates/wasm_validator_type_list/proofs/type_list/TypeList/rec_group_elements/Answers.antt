@@ -1,5 +1,5 @@
 use Rattle.std.proofs.Common.{arith}
-use Rattle.wasm_validator_type_list.proofs.Sound.{span_room}
+use Rattle.wasm_validator_type_list.proofs.ListInvariants.{span_room}
 use Rattle.wasm_validator_type_list.proofs.type_list.TypeList.rec_group_elements.Goals as goal
 
 pub new-requires-clause-start : goal.new-requires-clause-start

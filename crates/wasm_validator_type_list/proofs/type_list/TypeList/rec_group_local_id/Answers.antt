@@ -1,4 +1,4 @@
-use Rattle.wasm_validator_type_list.proofs.Sound.{span_room}
+use Rattle.wasm_validator_type_list.proofs.ListInvariants.{span_room}
 use Rattle.wasm_validator_type_list.proofs.type_list.TypeList.rec_group_local_id.Goals as goal
 
 pub local_id-requires-clause-start : goal.local_id-requires-clause-start

@@ -1,4 +1,4 @@
-use Rattle.wasm_validator_type_list.proofs.Sound.{ids_seen}
+use Rattle.wasm_validator_type_list.proofs.ListInvariants.{ids_seen}
 use Rattle.wasm_validator_type_list.proofs.type_list.TypeList.refers_by_ids.Goals as goal
 
 pub returns : goal.returns

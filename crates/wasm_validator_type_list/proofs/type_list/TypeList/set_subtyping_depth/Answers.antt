@@ -1,6 +1,6 @@
 use Rattle.std.proofs.Common.{ap, refl, ◌∙◌}
 use Rattle.wasm_validator_type_list.specs.Depths.{with_depth}
-use Rattle.wasm_validator_type_list.proofs.Sound.{sound_same, sound_depth, has_depth, shown_depths}
+use Rattle.wasm_validator_type_list.proofs.ListInvariants.{sound_same, sound_depth, has_depth, shown_depths}
 use Rattle.wasm_validator_type_list.proofs.type_list.TypeList.set_subtyping_depth.Goals as goal
 
 pub invariant_of-self : goal.invariant_of-self

@@ -1,4 +1,4 @@
-use Rattle.wasm_validator_type_list.proofs.Sound.{kept_seen, kept_right_if}
+use Rattle.wasm_validator_type_list.proofs.ListInvariants.{kept_seen, kept_right_if}
 use Rattle.wasm_validator_type_list.proofs.type_list.TypeList.subtyping_depth.Goals as goal
 
 pub returns-clause-kept : goal.returns-clause-kept

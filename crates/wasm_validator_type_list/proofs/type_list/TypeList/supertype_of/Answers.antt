@@ -1,4 +1,4 @@
-use Rattle.wasm_validator_type_list.proofs.Sound.{supertype_no_module, supertype_some, supertype_none}
+use Rattle.wasm_validator_type_list.proofs.ListInvariants.{supertype_no_module, supertype_some, supertype_none}
 use Rattle.wasm_validator_type_list.proofs.type_list.TypeList.supertype_of.Goals as goal
 
 pub id_from-requires-clause-not_module : goal.id_from-requires-clause-not_module

@@ -1,4 +1,4 @@
-use Rattle.wasm_validator_type_list.proofs.Matches.{top_seen}
+use Rattle.wasm_validator_type_list.proofs.TypeMatches.{top_seen}
 use Rattle.wasm_validator_type_list.proofs.type_list.TypeList.top_of_type.Goals as goal
 
 pub returns : goal.returns

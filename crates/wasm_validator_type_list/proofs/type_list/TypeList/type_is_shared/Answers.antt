@@ -1,5 +1,5 @@
 use Rattle.std.proofs.Common.{sym}
-use Rattle.wasm_validator_type_list.proofs.Matches.{shared_seen}
+use Rattle.wasm_validator_type_list.proofs.TypeMatches.{shared_seen}
 use Rattle.wasm_validator_type_list.proofs.type_list.TypeList.type_is_shared.Goals as goal
 
 pub returns : goal.returns

@@ -1,10 +1,10 @@
 use Rattle.std.proofs.Common.{◌<◌, ◌≤◌, length, arith}
 use Rattle.wasm_readers_errors.specs.WasmSpec.References.{refs_field}
 use Rattle.wasm_readers_errors.specs.WasmSpec.Syntax.{map_field}
-use Rattle.wasm_validator_type_list.specs.Declares.{declares}
+use Rattle.wasm_validator_type_list.specs.DeclarationsById.{declares}
 use Rattle.wasm_readers_types.specs.WasmReadersValues.SeenValues.{field_of}
-use Rattle.wasm_validator_type_list.specs.Grouped.{leads_in, AreIn, FieldsMatch}
-use Rattle.wasm_validator_type_list.proofs.Grouped.{item_holds, fields-short, fields-miss, fields-all, below-more}
+use Rattle.wasm_validator_type_list.specs.GroupTypes.{leads_in, AreIn, FieldsMatch}
+use Rattle.wasm_validator_type_list.proofs.GroupMatching.{item_holds, fields-short, fields-miss, fields-all, below-more}
 use Rattle.wasm_validator_type_list.proofs.type_list.matching.all_fields_match.Goals as goal
 
 pub fields_match-requires-clause-sub : goal.fields_match-requires-clause-sub

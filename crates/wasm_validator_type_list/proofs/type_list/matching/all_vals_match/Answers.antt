@@ -1,8 +1,8 @@
 use Rattle.std.proofs.Common.{◌<◌, ◌≤◌, ◌≡◌, length, arith}
 use Rattle.wasm_readers_errors.specs.WasmSpec.References.{refs_val}
 use Rattle.wasm_readers_types.specs.WasmReadersValues.SeenValues.{val_of}
-use Rattle.wasm_validator_type_list.specs.Grouped.{AreIn, ValsMatch}
-use Rattle.wasm_validator_type_list.proofs.Grouped.{item_holds, zip-miss, zip-all, below-more}
+use Rattle.wasm_validator_type_list.specs.GroupTypes.{AreIn, ValsMatch}
+use Rattle.wasm_validator_type_list.proofs.GroupMatching.{item_holds, zip-miss, zip-all, below-more}
 use Rattle.wasm_validator_type_list.proofs.type_list.matching.all_vals_match.Goals as goal
 
 pub vals_match-requires-clause-sub : goal.vals_match-requires-clause-sub

@@ -1,6 +1,6 @@
 use Rattle.std.proofs.Common.{ℕ, ◌<◌, get_or}
 use Rattle.wasm_readers_types.specs.WasmReadersValues.declared.values.ValType.{ValType}
-use Rattle.wasm_validator_type_list.specs.Grouped.{ValsMatch}
+use Rattle.wasm_validator_type_list.specs.GroupTypes.{ValsMatch}
 use Rattle.wasm_validator_type_list.proofs.type_list.matching.all_vals_match.Given as goal
 
 abbrev pub invariant-vals : goal.invariant-vals

@@ -1,5 +1,5 @@
-use Rattle.wasm_validator_type_list.proofs.Grouped.{params_in, results_in, fields_in}
-use Rattle.wasm_validator_type_list.proofs.Composite.{funcs_match, funcs_differ, structs_match}
+use Rattle.wasm_validator_type_list.proofs.GroupMatching.{params_in, results_in, fields_in}
+use Rattle.wasm_validator_type_list.proofs.CompositeMatching.{funcs_match, funcs_differ, structs_match}
 use Rattle.wasm_validator_type_list.proofs.type_list.matching.inners_match.Goals as goal
 
 pub all_vals_match-requires-clause-sub : goal.all_vals_match-requires-clause-sub

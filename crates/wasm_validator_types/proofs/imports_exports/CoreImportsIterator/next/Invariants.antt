@@ -1,5 +1,5 @@
 use Rattle.std.proofs.Common.{◌≡◌, length}
-use Rattle.wasm_validator_types.specs.Left.{imports_left}
+use Rattle.wasm_validator_types.specs.IteratorItems.{imports_left}
 use Rattle.wasm_validator_types.proofs.imports_exports.CoreImportsIterator.next.Given as goal
 
 abbrev pub invariant-pairs : goal.invariant-pairs

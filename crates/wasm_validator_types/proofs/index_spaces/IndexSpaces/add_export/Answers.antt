@@ -3,7 +3,7 @@ use Rattle.wasm_validator_types.specs.Entities.{entity_of, IsAmong}
 use Rattle.wasm_validator_types.specs.Spaces.{Spaces}
 use Rattle.wasm_validator_types.specs.SpacesSeen.{numbers, shown_export, AreExportsAmong}
 use Rattle.wasm_validator_types.proofs.Exports.{new_export_at}
-use Rattle.wasm_validator_types.proofs.Typed.{export_among}
+use Rattle.wasm_validator_types.proofs.FunctionsAndTags.{export_among}
 use Rattle.wasm_validator_types.proofs.index_spaces.IndexSpaces.add_export.Goals as goal
 
 pub returns-clause-ok : goal.returns-clause-ok

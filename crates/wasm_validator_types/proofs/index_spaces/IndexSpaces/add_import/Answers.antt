@@ -2,7 +2,7 @@ use Rattle.std.proofs.Common.{ap, sym, subst}
 use Rattle.wasm_validator_types.specs.Entities.{entity_of, IsAmong}
 use Rattle.wasm_validator_types.specs.Spaces.{Spaces}
 use Rattle.wasm_validator_types.specs.SpacesSeen.{numbers}
-use Rattle.wasm_validator_types.proofs.Typed.{imports_after}
+use Rattle.wasm_validator_types.proofs.FunctionsAndTags.{imports_after}
 use Rattle.wasm_validator_types.proofs.index_spaces.IndexSpaces.add_import.Goals as goal
 
 pub invariant_of-self : goal.invariant_of-self

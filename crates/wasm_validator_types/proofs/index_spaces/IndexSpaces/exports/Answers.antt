@@ -1,8 +1,8 @@
 use Rattle.std.proofs.Common.{ap, map}
-use Rattle.wasm_validator_types.specs.Left.{exports_left}
+use Rattle.wasm_validator_types.specs.IteratorItems.{exports_left}
 use Rattle.wasm_validator_types.specs.Spaces.{Spaces}
 use Rattle.wasm_validator_types.specs.SpacesSeen.{numbers, shown_export}
-use Rattle.wasm_validator_types.proofs.Typed.{exports_typed}
+use Rattle.wasm_validator_types.proofs.FunctionsAndTags.{exports_typed}
 use Rattle.wasm_validator_types.proofs.index_spaces.IndexSpaces.exports.Goals as goal
 
 pub returns-clause-typed : goal.returns-clause-typed

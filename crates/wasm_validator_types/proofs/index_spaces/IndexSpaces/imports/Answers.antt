@@ -1,8 +1,8 @@
 use Rattle.std.proofs.Common.{ap, map}
-use Rattle.wasm_validator_types.specs.Left.{imports_left}
+use Rattle.wasm_validator_types.specs.IteratorItems.{imports_left}
 use Rattle.wasm_validator_types.specs.Spaces.{Spaces}
 use Rattle.wasm_validator_types.specs.SpacesSeen.{numbers, shown_import}
-use Rattle.wasm_validator_types.proofs.Typed.{imports_typed}
+use Rattle.wasm_validator_types.proofs.FunctionsAndTags.{imports_typed}
 use Rattle.wasm_validator_types.proofs.index_spaces.IndexSpaces.imports.Goals as goal
 
 pub returns-clause-typed : goal.returns-clause-typed

@@ -1,7 +1,7 @@
 use Rattle.std.proofs.Common.{arith, ap, sym, subst}
 use Rattle.std.proofs.lemmas.Grind.{common_steps}
 use Rattle.wasm_validator_types.specs.SpacesSeen.{numbers, shown_import, shown_export, AreImportsAmong, AreExportsAmong}
-use Rattle.wasm_validator_types.proofs.Typed.{imports_pushed, exports_pushed}
+use Rattle.wasm_validator_types.proofs.FunctionsAndTags.{imports_pushed, exports_pushed}
 use Rattle.std.proofs.Common.{map}
 use Rattle.wasm_validator_types.proofs.index_spaces.IndexSpaces.push_type.Goals as goal
 

@@ -1,5 +1,5 @@
 use Rattle.std.proofs.Common.{length}
-use Rattle.wasm_validator_type_list.specs.Listing.{types_in}
+use Rattle.wasm_validator_type_list.specs.ListViews.{types_in}
 use Rattle.wasm_validator_types.proofs.shown.TypesRef.core_function_at.Goals as goal
 
 pub returns-clause-held : goal.returns-clause-held

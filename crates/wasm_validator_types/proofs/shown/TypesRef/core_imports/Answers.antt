@@ -1,7 +1,7 @@
 use Rattle.std.proofs.Common.{length}
-use Rattle.wasm_validator_type_list.specs.Listing.{types_in}
-use Rattle.wasm_validator_types.specs.Left.{imports_left}
-use Rattle.wasm_validator_types.proofs.Typed.{rows_below}
+use Rattle.wasm_validator_type_list.specs.ListViews.{types_in}
+use Rattle.wasm_validator_types.specs.IteratorItems.{imports_left}
+use Rattle.wasm_validator_types.proofs.FunctionsAndTags.{rows_below}
 use Rattle.wasm_validator_types.proofs.shown.TypesRef.core_imports.Goals as goal
 
 pub returns-clause-held : goal.returns-clause-held

@@ -1,6 +1,6 @@
 use Rattle.std.proofs.Common.{length}
-use Rattle.wasm_validator_type_list.specs.Listing.{types_in}
-use Rattle.wasm_validator_types.proofs.Typed.{found_below}
+use Rattle.wasm_validator_type_list.specs.ListViews.{types_in}
+use Rattle.wasm_validator_types.proofs.FunctionsAndTags.{found_below}
 use Rattle.wasm_validator_types.proofs.shown.TypesRef.entity_type_from_export.Goals as goal
 
 pub returns-clause-held : goal.returns-clause-held

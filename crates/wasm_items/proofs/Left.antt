@@ -1,2 +1,0 @@
--- Less is left behind what was read.
-pub use Rattle.wasm_operators.proofs.Skipping.{shorter}

@@ -1,0 +1,2 @@
+-- Less is left behind what was read.
+pub use Rattle.wasm_operators.proofs.ExpressionEnds.{shorter}

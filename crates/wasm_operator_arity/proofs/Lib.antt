@@ -1,5 +1,0 @@
-pub mod Frames
-pub mod LengthsCounted
-pub mod FormCounts
-pub mod Serving
-pub mod ContinuationCounts

@@ -1,6 +1,0 @@
-pub mod Asked
-pub mod Arities
-pub mod Sizes
-pub mod Lengths
-pub mod AccessCounts
-pub mod Refused

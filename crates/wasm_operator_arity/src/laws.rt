@@ -1,9 +1,0 @@
-//! Laws of the definitions.
-
-ghost use Rattle.wasm_operator_arity.specs.Lengths.{CountsAreLengths};
-
-/// A list of types that validation finds has as many types as are counted.
-#[tactic(auto, using(crate::proofs::LengthsCounted::lengths))]
-pub fn counts_are_lengths()
-    ensures { CountsAreLengths }
-{}

@@ -1,5 +1,0 @@
-pub mod Elements
-pub mod Segmenting
-pub mod Many
-pub mod Repeating
-pub mod Measuring

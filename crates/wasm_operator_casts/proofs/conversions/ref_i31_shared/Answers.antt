@@ -1,7 +1,0 @@
-use Rattle.std.proofs.Common.{rules}
-use Rattle.wasm_operator_references.proofs.WasmOperatorChecks.Acting.{needed, has_held}
-use Rattle.wasm_operator_casts.proofs.conversions.ref_i31_shared.Goals as goal
-
-pub returns-clause-took : goal.returns-clause-took
-returns-clause-took g c =
-    needed _ _ _ _ _ _ _ (has_held _ _ _ _ (search rules)) c.box_integer.ensures.took

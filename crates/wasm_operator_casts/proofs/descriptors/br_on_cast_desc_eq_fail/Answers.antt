@@ -1,6 +1,0 @@
-use Rattle.wasm_operator_casts.proofs.Sending.{described_on_fail}
-use Rattle.wasm_operator_casts.proofs.descriptors.br_on_cast_desc_eq_fail.Goals as goal
-
-pub returns-in-Ok-clause-took : goal.returns-in-Ok-clause-took
-returns-in-Ok-clause-took g c =
-    described_on_fail _ _ _ _ _ _ _ _ _ _ _ _ c.send.ensures.took c.in-Ok.ensures c.difference-sent.ensures

@@ -1,5 +1,0 @@
-use Rattle.wasm_operator_checks.proofs.Agreeing.{one_type}
-use Rattle.wasm_operator_checks.proofs.lists.match_next.Goals as goal
-
-pub returns-then-is_same_type-clause-decided : goal.returns-then-is_same_type-clause-decided
-returns-then-is_same_type-clause-decided g c = one_type (g.T.WasmModuleResources.context c.args.resources.now) _ _ (c.is_same_type.ensures c.if-is_same_type.true)

@@ -1,2 +1,0 @@
-pub mod Continued
-pub mod Handled

@@ -1,5 +1,0 @@
-use Rattle.wasm_operator_fast.proofs.general.branch_if_generally.Goals as goal
-
-pub returns-clause-took : goal.returns-clause-took
-returns-clause-took g c =
-    c.as_fast.ensures _ _ _ c.branch_if.ensures.took

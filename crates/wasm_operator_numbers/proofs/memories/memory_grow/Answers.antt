@@ -1,7 +1,0 @@
-use Rattle.wasm_operator_checks.proofs.Acting.{plainly}
-use Rattle.wasm_operator_checks.proofs.Typing.{memory_typed}
-use Rattle.wasm_operator_numbers.proofs.memories.memory_grow.Goals as goal
-
-pub returns-in-Some-clause-took : goal.returns-in-Some-clause-took
-returns-in-Some-clause-took g c =
-    plainly _ _ _ _ _ _ _ _ _ c.plain.ensures.took (memory_typed _ _ _ _ _ c.in-Some.ensures c.address-address.ensures) (memory_typed _ _ _ _ _ c.in-Some.ensures c.address-address.ensures)

@@ -1,3 +1,0 @@
--- What attributes here name of the crates below.
-pub use Rattle.wasm_operator_control.proofs.WasmOperatorChecks.Acting.{acts}
-pub use Rattle.wasm_operator_control.proofs.WasmOperatorChecks.Typing.{types}

@@ -1,6 +1,0 @@
-pub mod Defaulting
-pub mod Filling
-pub mod Structures
-pub mod Allowing
-pub mod Sharing
-pub mod Members

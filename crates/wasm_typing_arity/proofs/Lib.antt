@@ -1,0 +1,5 @@
+pub mod Frames
+pub mod CountsAsLengths
+pub mod FormCounts
+pub mod UnservedOperators
+pub mod ContinuationCounts

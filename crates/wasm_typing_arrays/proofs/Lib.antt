@@ -1,0 +1,5 @@
+pub mod Elements
+pub mod ElementSegments
+pub mod ManyOperands
+pub mod LikeOperands
+pub mod HeapBounds

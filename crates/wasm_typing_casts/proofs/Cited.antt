@@ -1,0 +1,2 @@
+-- What attributes here name of the crates below.
+pub use Rattle.wasm_typing_references.proofs.WasmTypingChecks.ActionSteps.{acts}

@@ -1,0 +1,11 @@
+use Rattle.std.proofs.Common.{rules, ◌∙◌, ap}
+use Rattle.wasm_typing_references.specs.WasmTypingChecks.WasmSpecSteps.Machine.{push_operand}
+use Rattle.wasm_typing_references.specs.WasmTypingChecks.WasmTypingStacks.BodyStacks.{state_of, below}
+use Rattle.wasm_typing_references.proofs.WasmTypingChecks.ActionSteps.{needed, has_held, took_ok}
+use Rattle.wasm_typing_casts.proofs.ReferenceConversions.{is_measured}
+use Rattle.wasm_typing_casts.proofs.conversions.i31_get.Goals as goal
+
+pub returns-in-Ok-exchange-clause-took : goal.returns-in-Ok-exchange-clause-took
+returns-in-Ok-exchange-clause-took g c =
+    needed _ _ _ _ _ _ _ (has_held _ _ _ _ (search rules))
+    (took_ok _ _ _ _ (is_measured _ _ _ _ _ _ c.in-Ok.ensures.0 (c.in-Ok-exchange.ensures.ok ∙ ap (λ o. push_operand o (below c.in-Ok.taken (state_of c.args.stacks.now))) c.number.ensures)))

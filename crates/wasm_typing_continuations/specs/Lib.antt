@@ -1,0 +1,2 @@
+pub mod ContinuationLookups
+pub mod HandlerTypes

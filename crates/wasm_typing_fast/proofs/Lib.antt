@@ -1,0 +1,10 @@
+pub mod FastActions
+pub mod LocalOperators
+pub mod FrameEnds
+pub mod FusedInstructions
+pub mod BranchOperands
+mod FrameEntries
+mod BlockTypes
+mod NumberBytes
+mod NumberSelects
+pub mod Cited

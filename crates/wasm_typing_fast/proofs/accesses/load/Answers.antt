@@ -1,0 +1,10 @@
+use Rattle.std.proofs.Common.{rules}
+use Rattle.wasm_typing_control.proofs.WasmTypingChecks.TypeLookups.{memory_typed, number_typed, aligned_held}
+use Rattle.wasm_typing_fast.proofs.FastActions.{needed, plainly, allows_held}
+use Rattle.wasm_typing_fast.proofs.accesses.load.Goals as goal
+
+pub returns-else-not-fits-clause-took : goal.returns-else-not-fits-clause-took
+returns-else-not-fits-clause-took g c =
+    needed _ _ _ _ _ _ _ (allows_held _ _ _ _ (search rules))
+    (needed _ _ _ _ _ _ _ (aligned_held _ _ _ _ _ _ c.in-Some.ensures (c.fits.ensures c.if-not-fits.false))
+    (plainly _ _ _ _ _ _ _ _ _ c.exchange_known.ensures.took (memory_typed _ _ _ _ _ c.in-Some.ensures c.address.ensures) (number_typed _ _ _ _ c.number.ensures)))

@@ -1,0 +1,5 @@
+use Rattle.wasm_typing_fast.proofs.general.call_generally.Goals as goal
+
+pub returns-clause-took : goal.returns-clause-took
+returns-clause-took g c =
+    c.as_fast.ensures _ _ _ c.call.ensures.took

@@ -1,0 +1,9 @@
+use Rattle.std.proofs.Common.{rules}
+use Rattle.wasm_typing_control.proofs.WasmTypingChecks.TypeLookups.{nothing_typed, number_typed}
+use Rattle.wasm_typing_fast.proofs.FastActions.{needed, plainly, allows_held}
+use Rattle.wasm_typing_fast.proofs.numbers.constant.Goals as goal
+
+pub returns-clause-took : goal.returns-clause-took
+returns-clause-took g c =
+    needed _ _ _ _ _ _ _ (allows_held _ _ _ _ (search rules))
+    (plainly _ _ _ _ _ _ _ _ _ c.give_known.ensures.took (nothing_typed _ _) (number_typed _ _ _ _ c.number.ensures))

@@ -1,0 +1,4 @@
+pub use Rattle.wasm_typing_control.specs as WasmTypingControl
+pub mod InstructionSteps
+pub mod Blocks
+pub mod SignedNumbers

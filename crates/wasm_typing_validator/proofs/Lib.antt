@@ -1,0 +1,14 @@
+pub use Rattle.wasm_typing_arity.proofs as WasmTypingArity
+pub mod FamilySteps
+pub mod LocalDefinitions
+pub mod BodyStarts
+pub mod LocalDeclarations
+pub mod OffsetSteps
+pub mod WrittenInstructions
+pub mod ByteSteps
+pub mod CodeSurroundings
+pub mod FrameQueries
+pub mod Cited
+pub mod RareOperators
+pub mod BranchTables
+pub mod ReadingFailures

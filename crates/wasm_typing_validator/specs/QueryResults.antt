@@ -1,0 +1,18 @@
+-- What the queries of a validator of operators show.
+-- Core Specification 3.0, Appendix, Validation Algorithm (Data Structures).
+use Rattle.std.specs.Prelude.{Option, Some, None}
+use Rattle.wasm_typing_blocks.specs.WasmTypingChecks.WasmSpecRules.WasmSpec.Syntax.{Val}
+use Rattle.wasm_readers_types.specs.WasmReadersValues.declared.indices.UnpackedIndex.{UnpackedIndex}
+use Rattle.wasm_operators.specs.SeenControl.{block_of}
+use Rattle.wasm_typing_blocks.specs.WasmTypingChecks.WasmSpecSteps.Machine as machine
+use Rattle.wasm_typing_blocks.specs.WasmTypingChecks.WasmSpecSteps.Machine.{Operand, known}
+use Rattle.wasm_typing_blocks.specs.WasmTypingChecks.WasmTypingStacks.SeenBlocks.{kind_of}
+use Rattle.wasm_typing_validator.specs.declared.queries.Frame.{Frame}
+
+-- the type of an operand, where it is known
+abbrev pub known_type : Operand UnpackedIndex → Option (Val UnpackedIndex)
+known_type (known v) = Some v
+known_type _ = None
+
+abbrev pub shown_frame : Frame → machine.Frame UnpackedIndex
+shown_frame x = record { kind = kind_of x.kind; block = block_of x.block_type; height = x.height; unreachable = x.unreachable; init_height = x.init_height }
