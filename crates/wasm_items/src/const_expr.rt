@@ -1,7 +1,7 @@
 //! Constant expressions as their bytes.
 
-ghost use Rattle.std.specs.Prelude.{◌≡◌, ◌≤◌, ◌<◌, ◌+◌, ℕ, List, length, Some, None, IfOk, IfErr, OnOk, OnErr};
-ghost use Rattle.wasm_readers.specs.WasmReadersBytes.Reader.{SameInput, input, position_in, original, rest, RefusedFrom, place_of_next};
+ghost use Rattle.std.specs.Prelude.{◌≡◌, ◌≤◌, ◌<◌, ℕ, List, Some, None, IfOk, IfErr, OnOk, OnErr};
+ghost use Rattle.wasm_readers.specs.WasmReadersBytes.Reader.{SameInput, position_in, rest, RefusedFrom, place_of_next};
 ghost use Rattle.wasm_readers.specs.WrittenIndices.{written};
 ghost use Rattle.wasm_operators.specs.Expressions.{expression_at};
 ghost use Rattle.wasm_items.specs.SeenReaders.{expression_reader, expression_of, operators_left};

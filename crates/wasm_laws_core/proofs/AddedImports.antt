@@ -25,7 +25,7 @@ use Rattle.wasm_validator_core.proofs.WasmValidatorChecks.ItemTests.{externs_are
 use Rattle.wasm_validator_types.specs.Spaces.{Spaces, with_import}
 use Rattle.wasm_validator_types.specs.Entities.{Entity}
 use Rattle.wasm_validator_core.specs.Items as machine
-use Rattle.wasm_validator_core.specs.Items.{function_size, entity_size, grown, with_imported, with_named, is_short, add_importing, add_import}
+use Rattle.wasm_validator_core.specs.Items.{entity_size, grown, with_imported, with_named, is_short, add_importing, add_import}
 use Rattle.wasm_laws_core.specs.ModuleParts.{entity_in, listed_table, listed_global, spaces_of}
 use Rattle.wasm_laws_core.specs.Lists.{only_types, only_imports, add_imports}
 use Rattle.wasm_laws_core.specs.Laws.{AreValidImports, ImportsAreAdded}

@@ -10,7 +10,7 @@ use Rattle.wasm_operators.specs.WasmOperatorsPlain.declared.signatures.Signature
 use Rattle.wasm_operators.specs.Control as control
 use Rattle.wasm_operators.specs.Control.{value_block}
 use Rattle.wasm_operators.specs.References as references
-use Rattle.wasm_operators.specs.References.{Reference, Cast}
+use Rattle.wasm_operators.specs.References.{Reference}
 use Rattle.wasm_operators.specs.Instructions as instruction
 use Rattle.wasm_operators.specs.Instructions.{Instruction}
 use Rattle.wasm_operators.specs.WasmOperatorsPlain.declared.variables.VariableOperator.{VariableOperator}

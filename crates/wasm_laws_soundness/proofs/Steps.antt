@@ -43,7 +43,7 @@ use Rattle.wasm_laws_values.specs.StoreValidity.{Grows, Reaches, Carries, IsType
 use Rattle.wasm_laws_values.proofs.Values.{long, type-match, types-match, above-match, types-append, grows-refl, types-grow, must_hold, start-fits, get-last}
 use Rattle.wasm_laws_values.proofs.Outcomes.{with_top-promised, on_some-promised, pick-promised, either-promised, on_number-promised, on_one-promised, on_reference-promised, on_choice-promised, on_exception-promised, on_function-promised, func-of_functions, concrete-of_functions, fits-with, fits-now, fits-in, promised-since, lesser, put_on, writing-promised, answered-promised, on_answer-promised, threw-fits, back-fits, cast-has, cast-lacks}
 use Rattle.wasm_laws_soundness.specs.Roles as role
-use Rattle.wasm_laws_soundness.specs.Roles.{Callee, by_index, by_reference, by_table, role_of, handler_at, operand_count}
+use Rattle.wasm_laws_soundness.specs.Roles.{by_index, by_reference, by_table, role_of, handler_at, operand_count}
 use Rattle.wasm_laws_soundness.specs.Interpreter.{Task, does, invokes, label_for, finish, enter_function, with_function, invoke, invoke_in_place, if_of_type, with_callee, by_cast, is_described, by_description, resumed, step_as, step}
 use Rattle.wasm_laws_soundness.specs.Promises.{RefersToContinuation, IsResumed, it_ends, it_suspends}
 use Rattle.wasm_laws_soundness.proofs.DescriptorsAndHandlers.{with_descriptor, handler_is}

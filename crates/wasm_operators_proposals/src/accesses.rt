@@ -1,7 +1,7 @@
 //! The immediates of atomic accesses to globals, tables, structures and arrays.
 
-ghost use Rattle.std.specs.Prelude.{◌≡◌, ◌≤◌, ◌<◌, ◌+◌, Some, None, IfOk, IfErr, OnOk, OnErr};
-ghost use Rattle.wasm_operators_plain.specs.WasmReaders.WasmReadersBytes.Reader.{SameInput, position_in, original, rest, RefusedFrom};
+ghost use Rattle.std.specs.Prelude.{◌≡◌, ◌≤◌, ◌<◌, Some, None, IfOk, IfErr, OnErr};
+ghost use Rattle.wasm_operators_plain.specs.WasmReaders.WasmReadersBytes.Reader.{SameInput, position_in, rest, RefusedFrom};
 ghost use Rattle.wasm_operators_proposals.specs.Accesses.{ordering_from, ordering_at, place_of, access_values_at};
 
 use wasm_operators_atomic::SharedForm;

@@ -1,6 +1,6 @@
 //! Lists of immediates that are borrowed from the bytes.
 
-ghost use Rattle.std.specs.Prelude.{◌≡◌, ◌≤◌, ◌<◌, ℕ, List, Option, Some, None, IfOk, IfErr, OnOk, OnErr, length};
+ghost use Rattle.std.specs.Prelude.{◌≡◌, ◌≤◌, ◌<◌, ℕ, List, Option, Some, None, IfOk, IfErr, OnOk, OnErr};
 ghost use Rattle.wasm_operators_plain.specs.WasmSpec.Values.{list_at, many_at, u32_at};
 ghost use Rattle.wasm_operators_plain.specs.WasmSpec.BinaryTypes.{val_at};
 ghost use Rattle.wasm_operators_plain.specs.WasmReaders.WrittenIndices.{written};

@@ -1,7 +1,7 @@
 -- A table with gaps, whose numbers count up, says what the own numbers of its entries say.
 use Rattle.std.proofs.Common.{◌≡◌, refl, sym, subst, ap, ℕ, zero, suc, ◌+◌, eqb, Bool, true, false, cond, List, [], ◌∷◌, Option, Some, None, arith}
 use Rattle.std.proofs.lemmas.Bool.{eqb-true}
-use Rattle.std.specs.Prelude.{slice_get, IfSome, IfNone, ◌≢◌}
+use Rattle.std.specs.Prelude.{IfSome, IfNone, ◌≢◌}
 use Rattle.wasm_operators_vector.specs.Tables.{entry, IsTableOf}
 
 -- the numbers of these entries count up from this one, and gaps count too

@@ -1,8 +1,8 @@
-ghost use Rattle.std.specs.Prelude.{◌≡◌, ◌≢◌, ◌≤◌, ◌<◌, ◌^◌, ◌-◌, ◌+◌, IfOk, OnOk, OnErr, IfErr, IfSome, length, drop, [], ◌∷◌, ◌++◌, Some, None, IsTrue, nat_eq};
+ghost use Rattle.std.specs.Prelude.{◌≡◌, ◌≢◌, ◌≤◌, ◌<◌, ◌^◌, ◌-◌, ◌+◌, IfOk, OnOk, OnErr, IfErr, IfSome, length, drop, [], Some, None, nat_eq};
 ghost use Rattle.std.specs.List.{starts_with};
 ghost use Rattle.std.specs.Option.{option_map};
 ghost use Rattle.wasm_items.specs.WasmReaders.WasmReadersBytes.Reader.{SameInput, position_in, original, rest, RefusedFrom};
-ghost use Rattle.wasm_spec.specs.Framing.{place, piece_of, number_of, agrees, u16_at};
+ghost use Rattle.wasm_spec.specs.Framing.{place, piece_of, number_of, u16_at};
 ghost use Rattle.wasm_parser.specs.Machine.{start, core_header, header_of, numbers_of, entry_of, contents_of, alone_of, section_of, ending_of, part_of, behind, at_sections, failed, next_of};
 ghost use Rattle.wasm_parser.specs.PayloadViews.{offset_of, seen, state};
 ghost use Rattle.wasm_parser.specs.Places.{reader_end, IsPartOf, OfSameInput, IsInInput, ReadsInput, starts_at, ends_at, stands_at, stands_in_code, input_end, section_size, body_size, part_size, part_end, next_size, next_end, IsFormat, refused_with, CodeIsLast, BodiesAreLast};

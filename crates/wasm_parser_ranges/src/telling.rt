@@ -1,6 +1,5 @@
 //! The same for a caller's arrays, as C has them.
 
-ghost use Rattle.std.specs.Prelude.{◌≡◌, length};
 ghost use Rattle.wasm_parser_ranges.specs.Ranges.{AreBodies, AreCustomSections};
 ghost use Rattle.wasm_parser_ranges.specs.CallerArrays.{StandIn, TellsFound, TellsName};
 

@@ -10,7 +10,6 @@ use Rattle.wasm_readers_bytes.specs.WasmReadersErrors.declared.error.Error.{Erro
 use Rattle.wasm_readers_bytes.specs.WasmReadersErrors.declared.error.Error.TheVariants.{Refused}
 use Rattle.wasm_readers_bytes.specs.WasmReadersErrors.declared.error.Fault.TheVariants.{Malformed}
 use Rattle.wasm_readers_bytes.specs.WasmReadersErrors.declared.error.Malformed.TheVariants.{SectionSize}
-use Rattle.wasm_readers_bytes.specs.WasmReadersErrors.declared.error.Refusal.{Refusal}
 use Rattle.wasm_readers_bytes.specs.WasmReadersErrors.Refusals.{plain}
 use Rattle.wasm_readers.specs.Refusals.{Telling, Tells}
 

@@ -3,7 +3,7 @@
 ghost use Rattle.std.specs.Prelude.{◌≡◌, ◌≤◌, ◌<◌, OnOk, OnErr, IfOk, Some, None, map, IfErr};
 ghost use Rattle.wasm_readers_bytes.specs.WasmSpec.Values.{list_at};
 ghost use Rattle.wasm_readers_bytes.specs.WasmSpec.BinaryTypes.{index_at, func_at, comp_at, marked_at, marked_index_at, field_at, final_or_not, sub_at, rec_at};
-ghost use Rattle.wasm_readers_bytes.specs.Reader.{input, SameInput, position_in, rest, RefusedFrom, FailedFrom};
+ghost use Rattle.wasm_readers_bytes.specs.Reader.{SameInput, position_in, rest, RefusedFrom, FailedFrom};
 ghost use Rattle.wasm_readers_bytes.specs.WasmReadersErrors.Errors.{Reads};
 ghost use Rattle.wasm_readers.specs.WrittenIndices.{written};
 ghost use Rattle.wasm_readers_types.specs.SeenTypes.{func_of, comp_of, sub_of, rec_of};

@@ -1,8 +1,8 @@
 //! Reading of lists of items.
 
-ghost use Rattle.std.specs.Prelude.{◌≡◌, ◌≤◌, map, IfErr};
+ghost use Rattle.std.specs.Prelude.{◌≤◌, map, IfErr};
 ghost use Rattle.wasm_readers_bytes.specs.WasmSpec.Values.{list_at, many_at};
-ghost use Rattle.wasm_readers_bytes.specs.Reader.{input, SameInput, position_in, rest, FailedFrom};
+ghost use Rattle.wasm_readers_bytes.specs.Reader.{SameInput, position_in, rest, FailedFrom};
 ghost use Rattle.wasm_readers_bytes.specs.WasmReadersErrors.Errors.{Reads};
 
 use crate::section_limited::FromReader;

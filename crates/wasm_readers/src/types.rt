@@ -1,13 +1,11 @@
 //! Reading of types.
 
-ghost use Rattle.std.specs.Prelude.{◌≡◌, ◌≤◌, ◌<◌, ℕ, List, Option, Some, None, IfOk, OnOk, OnErr, map, IfErr, true};
+ghost use Rattle.std.specs.Prelude.{◌≡◌, ◌≤◌, ◌<◌, Option, Some, None, IfOk, OnOk, OnErr, IfErr, true};
 ghost use Rattle.std.specs.Option.{option_map};
-ghost use Rattle.wasm_readers_bytes.specs.WasmSpec.Values.{list_at};
 ghost use Rattle.wasm_readers_bytes.specs.WasmSpec.Syntax.{abstract_heap};
 ghost use Rattle.wasm_readers_bytes.specs.WasmSpec.BinaryTypes.{abstract_heap_from, abstract_heap_at, flag_at, heap_at, ref_at, val_at, storage_at, field_at};
-ghost use Rattle.wasm_readers_bytes.specs.Reader.{input, SameInput, position_in, rest, RefusedFrom, place_of_next, byte_fault};
+ghost use Rattle.wasm_readers_bytes.specs.Reader.{SameInput, position_in, rest, RefusedFrom, place_of_next, byte_fault};
 ghost use Rattle.wasm_readers_bytes.specs.WasmReadersErrors.Refusals.{plain};
-ghost use Rattle.wasm_readers_bytes.specs.WasmReadersErrors.Errors.{Reads};
 ghost use Rattle.wasm_readers.specs.WrittenIndices.{written};
 ghost use Rattle.wasm_readers.specs.Refusals.{begins_reference, IsToldOfFirst};
 ghost use Rattle.wasm_readers_types.specs.WasmReadersValues.SeenValues.{abstract_heap_of, heap_of, HeapFits, ref_of, val_of, storage_of, field_of};

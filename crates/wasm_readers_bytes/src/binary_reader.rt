@@ -10,8 +10,8 @@
 //! that its contract names. Numbers are in LEB128: unsigned ones are read by unrolled code, and
 //! refusals are made out of line.
 
-ghost use Rattle.std.specs.Prelude.{◌≡◌, ◌==◌, ◌≤◌, ◌<◌, ◌^◌, ◌-◌, ◌+◌, ◌≤ℤ◌, ◌<ℤ◌, ◌-ℤ◌, pos, IfOk, OnOk, OnErr, IfSome, OnSome, IfNone, length, take, drop, slice_range, [], ◌∷◌, ◌++◌, Some, None, IfErr};
-ghost use Rattle.wasm_readers_errors.specs.WasmSpec.Values.{byte_at, u32_at, u64_at, s33_index_at, bytes_at, sized_at, name_at, signed_at as integer_at, unsigned_at};
+ghost use Rattle.std.specs.Prelude.{◌≡◌, ◌==◌, ◌≤◌, ◌<◌, ◌^◌, ◌-◌, ◌+◌, ◌≤ℤ◌, ◌<ℤ◌, ◌-ℤ◌, pos, IfOk, OnOk, OnErr, IfSome, OnSome, IfNone, length, [], ◌∷◌, Some, None, IfErr};
+ghost use Rattle.wasm_readers_errors.specs.WasmSpec.Values.{u32_at, u64_at, s33_index_at, bytes_at, sized_at, name_at, signed_at as integer_at, unsigned_at};
 
 use crate::leb128::{long_signed_at, signed_at, wrong_number};
 use std::ops::Range;

@@ -1,12 +1,12 @@
 -- Types that say the same in the abstract syntax are the same: what each function of SeenTypes forgets is nothing.
-use Rattle.std.specs.Prelude.{◌≡◌, List, [], ◌∷◌, map, refl}
-use Rattle.std.specs.Prelude.{ℕ, Option, option_map, ◌/◌, ◌%◌, ◌<◌}
+use Rattle.std.specs.Prelude.{◌≡◌, List, map, refl}
+use Rattle.std.specs.Prelude.{Option, option_map}
 use Rattle.std.specs.declared.option.Option.TheVariants.{None, Some}
-use Rattle.std.proofs.Common.{ap, sym, ◌∙◌, lit<, arith}
+use Rattle.std.proofs.Common.{ap}
 use Rattle.wasm_readers_values.specs.declared.indices.PackedIndex.{PackedIndex}
 use Rattle.wasm_readers_values.specs.WasmSpec.Syntax as syntax
-use Rattle.wasm_readers_values.specs.WasmSpec.Syntax.{AbstractHeap, Heap, Ref, Val, Storage, Field, Comp, Sub}
-use Rattle.wasm_readers_values.specs.SeenValues.{index_of, abstract_heap_of, packed_heap_of, ref_of, val_of, storage_of, field_of}
+use Rattle.wasm_readers_values.specs.WasmSpec.Syntax.{Comp, Sub}
+use Rattle.wasm_readers_values.specs.SeenValues.{index_of, val_of, field_of}
 use Rattle.wasm_readers_types.specs.SeenTypes.{comp_of, sub_of}
 use Rattle.wasm_readers_values.specs.declared.indices.UnpackedIndex.{UnpackedIndex}
 use Rattle.wasm_readers_types.specs.declared.types.CompositeInnerType.{CompositeInnerType}

@@ -14,7 +14,6 @@
 ghost use Rattle.std.specs.Prelude.{◌≡◌, ◌∷◌, [], true, false, length, IfOk, IfErr};
 ghost use Rattle.std.specs.Bool.{Decides};
 ghost use Rattle.wasm_readers_values.specs.WasmSpec.Syntax as syntax;
-ghost use Rattle.wasm_readers_values.specs.SeenValues.{val_of};
 ghost use Rattle.wasm_readers_types.specs.SeenTypes.{func_of, sub_of, rec_of, final_func, IsFunc, IsArray, IsStruct};
 ghost use Rattle.std.proofs.Common.{rules};
 

@@ -13,7 +13,7 @@
 //! and a number of 32 bits in four bytes, the highest first. A place in a group or an id in it is
 //! below [`MAX_IDS`]; a module's type index may be any `u32`.
 
-ghost use Rattle.std.specs.Prelude.{◌≡◌, ◌<◌, ℕ, Option, IfSome, IsSome, IsTrue, ◌↔◌};
+ghost use Rattle.std.specs.Prelude.{◌≡◌, ◌<◌, Option, IfSome, IsSome, IsTrue, ◌↔◌};
 ghost use Rattle.std.proofs.Common.{rules};
 ghost use Rattle.wasm_readers_values.specs.declared.indices.TheConstants.{MAX_IDS};
 ghost use Rattle.wasm_readers_values.specs.Indices.{number_of, number_in, AreBytes, indexed, Fits, IsId, module_of, place_of, id_of};

@@ -11,7 +11,7 @@ use Rattle.wasm_spec_steps.specs.Bodies.{Local, Surroundings}
 use Rattle.wasm_spec_steps.specs.Machine.{Kind, if_kind, else_kind, legacy_try_kind, legacy_catch_kind, legacy_catch_all_kind, has_caught, known, non_null, same_number}
 use Rattle.wasm_spec_steps.specs.Actions.{OperandTypes, label, local, last, front, Check, Action, take, give, take_any, take_reference, take_below, take_comparable, make_non_null, convert, describe, choose, stop, set, branch_on_null, branch_to_one_of, find_caught}
 use Rattle.wasm_spec_steps.specs.Shapes.{Shape, one, legacy_checks, shape_of}
-use Rattle.wasm_spec_steps.specs.Meanings.{label_by, resolve_block, block_signature, descriptor_at, is_below_either, agree, may_end}
+use Rattle.wasm_spec_steps.specs.Meanings.{label_by, descriptor_at, is_below_either, agree, may_end}
 use Rattle.wasm_spec_steps.specs.Meanings as meaning
 use Rattle.wasm_spec_steps.specs.Steps.{actions_of, checked}
 use Rattle.wasm_spec_instructions.specs.Code.{Opening, a_block, a_loop, an_if, a_try, a_try_table, Handler, a_catch, a_catch_all, Code, done, simply, enclosing, choosing_between, handling, delegating_to, Handlers, last_handler, catch_before, and_then, kind_of, block_of, checks_of, condition_of, handler_checks, handler_operands}

@@ -4,7 +4,7 @@ use Rattle.wasm_operators.specs.WasmOperatorsPlain.Signatures.{signature_of, sat
 use Rattle.wasm_operators.specs.WasmOperatorsPlain.declared.signatures.Signature.{Signature}
 use Rattle.wasm_operators.specs.WasmOperatorsPlain.declared.signatures.Signature.TheVariants.{Unary, Binary}
 use Rattle.wasm_operators.specs.Control as control
-use Rattle.wasm_operators.specs.Control.{Block, empty_block, value_block, func_block, Control, Parametric}
+use Rattle.wasm_operators.specs.Control.{Control, Parametric}
 use Rattle.wasm_operators.specs.References as references
 use Rattle.wasm_operators.specs.References.{Reference, Cast}
 use Rattle.wasm_operators.specs.Legacy as legacy

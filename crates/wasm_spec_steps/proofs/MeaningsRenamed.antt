@@ -12,7 +12,7 @@ use Rattle.wasm_operators.specs.Maps.{map_block}
 use Rattle.wasm_spec_rules.specs.Attempts.{◌>>=◌, guard, among, passes, last_of, front_of, list_of}
 use Rattle.wasm_spec_steps.specs.Matching.{matches_vals, match_some, matches_storage}
 use Rattle.wasm_spec_steps.specs.Bodies.{Surroundings, map_local, map_surroundings}
-use Rattle.wasm_spec_steps.specs.Machine.{Operand, bottom, bottom_reference, open_reference, known, Kind, block_kind, loop_kind, if_kind, else_kind, try_table_kind, legacy_try_kind, legacy_catch_kind, legacy_catch_all_kind, is_try, may_catch, has_caught, Frame, State, delegates, rethrows, map_operand, map_frame, map_state, map_popped, push_operand, push_vals, pop_any, pop_reference, same_number, chosen, become_unreachable, push_frame, set_local, pop_vals}
+use Rattle.wasm_spec_steps.specs.Machine.{Operand, bottom, bottom_reference, open_reference, known, Kind, block_kind, loop_kind, if_kind, else_kind, try_table_kind, legacy_try_kind, legacy_catch_kind, legacy_catch_all_kind, is_try, has_caught, Frame, State, delegates, rethrows, map_operand, map_frame, map_state, map_popped, push_operand, push_vals, pop_any, pop_reference, same_number, chosen, become_unreachable, push_frame, set_local, pop_vals}
 use Rattle.wasm_spec_steps.specs.Actions.{Signed, of_type, of_function, of_tag, OperandTypes, these, params, results, label, returned, local, global, function_reference, new_reference, fields, element, field, table_address, memory_address, table_element, segment, lesser_table_address, lesser_memory_address, top, descriptor_of, descriptor_for, repeated, front, last, continued, taken_by, given_by, joined, before, behind, Check, has, allows, global_is_mutable, local_is_set, function_is_referenced, is_exception, each_matches, each_matches_some, may_be_cast, can_be_tested, is_aligned, suits, fields_have_defaults, has_no_descriptor, field_is_mutable, field_is_packed, element_is_mutable, element_has_default, element_is_number, element_is_packed, element_is_storable, data_is_there, segment_is_there, reaches_global, reaches_table, reaches_type, reaches_function, Action, need, refuse, take, give, take_any, take_reference, take_comparable, make_non_null, choose, stop, turn_to_else, leave, take_below, convert, describe, enter, turn_to_catch, find_outside, find_caught, set, branch_on_null, branch_to_one_of}
 use Rattle.wasm_spec_rules.specs.Signatures.{Signature, resolve_heap, resolve_ref, resolve_val, resolve_vals, signature_of}
 use Rattle.wasm_spec_steps.specs.Meanings.{ref_to, resolve_block, defined_in, firsts, fields_of, element_of, cont_of, referred, all_but, last_ones, unpack, unpack_field, is_packed, has_default, all_have_defaults, copies, one, is_of_continuations, address, both, label_by, sub_at, comp_at, type_signature, block_signature, frame_signature, label_at, returned_at, signature_at, fields_at, element_at, field_at, exact_if, function_heap, descriptor_at, descriptor_heap, top_heap, table_is_64, memory_is_64, continuation_signature, continued_signature, types_at, casts, holds, is_below_either, agree, converted, pop_frame, may_end, leave_in, turn_in, catch_in, labels_fit, described_by, described, act, run}

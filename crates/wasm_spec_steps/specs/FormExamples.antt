@@ -1,5 +1,5 @@
 -- Bodies that are valid and bodies that aren't: operators on vectors, and atomic ones.
-use Rattle.std.specs.Prelude.{ℕ, ◌≡◌, ◌+◌, ◌^◌, true, false, Bool, List, [], ◌∷◌}
+use Rattle.std.specs.Prelude.{ℕ, ◌≡◌, ◌+◌, ◌^◌, true, false, [], ◌∷◌}
 use Rattle.wasm_spec_rules.specs.WasmSpec.TypeExamples.{features}
 use Rattle.wasm_operators.specs.Instructions.{Instruction, constant, vector, atomic}
 use Rattle.wasm_operators.specs.WasmOperatorsPlain.declared.constants.ConstantOperator.TheVariants.{V128Const}

@@ -1,7 +1,7 @@
 -- Operators on vectors and atomic ones by their forms: which immediates they may have, and the types that they take and give.
 -- Core Specification 3.0, Validation, Instructions, Vector Instructions and Memory Instructions; Threads, Validation, Instructions,
 -- Atomic Memory Instructions.
-use Rattle.std.specs.Prelude.{ℕ, zero, suc, ◌/◌, ◌%◌, ◌^◌, ◌==◌, ◌+◌, ◌&&◌, ◌||◌, nat_le, nat_lt, Bool, true, false, List, [], ◌∷◌, ◌++◌, length, slice_get, Option, Some, None}
+use Rattle.std.specs.Prelude.{ℕ, zero, suc, ◌/◌, ◌%◌, ◌^◌, ◌==◌, ◌+◌, ◌&&◌, ◌||◌, nat_le, nat_lt, Bool, true, false, List, [], ◌∷◌, length, slice_get, Option, Some, None}
 use Rattle.wasm_spec_rules.specs.WasmSpec.Syntax.{Memory, Val, i32, i64, f32, f64, v128}
 use Rattle.wasm_spec_rules.specs.WasmSpec.Features.{Features}
 use Rattle.wasm_spec_rules.specs.WasmSpec.ValueTypes.{allows_val}

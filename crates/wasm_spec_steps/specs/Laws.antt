@@ -2,7 +2,7 @@
 use Rattle.std.specs.Prelude.{◌≡◌, ◌≤◌, ◌<◌, ℕ, Bool, true, false, ◌&&◌, List, ◌++◌, length, Option, Some, None, is_some}
 use Rattle.std.specs.Bool.{Decides}
 use Rattle.std.specs.Option.{option_map}
-use Rattle.wasm_spec_rules.specs.WasmSpec.Syntax.{Ref, Sub}
+use Rattle.wasm_spec_rules.specs.WasmSpec.Syntax.{Sub}
 use Rattle.wasm_spec_rules.specs.WasmSpec.SupertypeOrder.{ancestor_at, IsAncestor}
 use Rattle.wasm_spec_rules.specs.WasmSpec.CrateLimits.{most_clauses}
 use Rattle.wasm_spec_rules.specs.WasmSpec.MatchingTests.{World, IsWorld}

@@ -2,7 +2,7 @@
 -- Core Specification 3.0, Appendix, Validation Algorithm, and Validation, Instructions.
 use Rattle.std.specs.Prelude.{ℕ, zero, suc, Bool, true, false, not, ◌&&◌, ◌||◌, ◌==◌, ◌^◌, ◌-◌, nat_lt, nat_le, List, [], ◌∷◌, ◌++◌, map, length, drop, Option, Some, None, is_some, slice_get, if◌then◌else◌}
 use Rattle.std.specs.Option.{option_map}
-use Rattle.wasm_spec_rules.specs.WasmSpec.Syntax.{AbstractHeap, eq_heap, cont_heap, Heap, abstract_heap, concrete, exact, Ref, Val, i32, i64, f32, f64, v128, reference, Storage, i8, i16, unpacked, Field, Comp, array, struct, cont, Sub, Memory}
+use Rattle.wasm_spec_rules.specs.WasmSpec.Syntax.{AbstractHeap, eq_heap, cont_heap, Heap, abstract_heap, concrete, exact, Ref, Val, i32, i64, reference, Storage, unpacked, Field, Comp, array, struct, cont, Sub, Memory}
 use Rattle.wasm_spec_rules.specs.WasmSpec.Features.{Features}
 use Rattle.wasm_spec_rules.specs.WasmSpec.ValueTypes.{implies, allows_val}
 use Rattle.wasm_spec_rules.specs.WasmSpec.CrateLimits.{most_clauses, is_within}

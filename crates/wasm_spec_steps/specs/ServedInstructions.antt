@@ -1,6 +1,6 @@
 -- Which instructions the features serve: those of proposals beyond the standard that have a feature of their own are none without it, and
 -- their opcodes are none.
-use Rattle.std.specs.Prelude.{◌≡◌, ℕ, Bool, true, false, List, Option, Some, None}
+use Rattle.std.specs.Prelude.{◌≡◌, ℕ, Bool, true, false, List, Option, None}
 use Rattle.wasm_spec_rules.specs.WasmSpec.Features.{Features}
 use Rattle.wasm_spec_rules.specs.WasmSpec.MatchingTests.{World}
 use Rattle.wasm_spec_rules.specs.Attempts.{◌>>=◌, guard}

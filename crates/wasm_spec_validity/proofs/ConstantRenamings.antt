@@ -1,5 +1,5 @@
 -- Constant expressions over other identities of types.
-use Rattle.std.proofs.Common.{◌≡◌, refl, sym, ap, ◌∙◌, subst, ℕ, Bool, true, List, map, Option, Some, None, option_map, slice_get, ◌&&◌}
+use Rattle.std.proofs.Common.{◌≡◌, refl, sym, ap, ◌∙◌, ℕ, true, List, map, Option, Some, None, option_map, slice_get, ◌&&◌}
 use Rattle.std.specs.List.{All}
 use Rattle.std.proofs.lemmas.List.Elements.{All-weaker}
 use Rattle.std.proofs.lemmas.Option.{slice_get-map}
@@ -17,7 +17,7 @@ use Rattle.wasm_spec_steps.specs.Machine.{State, map_state}
 use Rattle.wasm_spec_steps.specs.Renaming.{Renames}
 use Rattle.wasm_spec_steps.specs.Steps.{steps_in, is_finished}
 use Rattle.wasm_spec_steps.proofs.StepsRenamed.{steps_in-map, is_finished-map}
-use Rattle.wasm_spec_validity.specs.OtherContexts.{elsewhere, ConstantsAreRenamed, ConstantsRename}
+use Rattle.wasm_spec_validity.specs.OtherContexts.{elsewhere, ConstantsRename}
 use Rattle.wasm_spec_validity.proofs.ConstantContexts.{steps_same}
 
 none : {P X : Type 0} (x : X) → None ≡ Some x → P

@@ -1,6 +1,6 @@
 //! How many operands operators on continuations take and give.
 
-ghost use Rattle.std.specs.Prelude.{◌≡◌, map, length, Some, None, IfSome, IfNone};
+ghost use Rattle.std.specs.Prelude.{◌≡◌, map, Some, None, IfSome, IfNone};
 ghost use Rattle.std.specs.Option.{option_map, option_and_then};
 ghost use Rattle.wasm_readers_types.specs.WasmReadersValues.SeenValues.{ref_of, val_of};
 ghost use Rattle.wasm_readers_types.specs.SeenTypes.{func_of, sub_of};

@@ -1,6 +1,6 @@
 //! How many operands control operators, calls and parametric operators take and give.
 
-ghost use Rattle.std.specs.Prelude.{◌≡◌, ◌==◌, length, Some, IsTrue, ◌↔◌};
+ghost use Rattle.std.specs.Prelude.{◌≡◌, ◌==◌, length, Some};
 ghost use Rattle.wasm_spec_steps.specs.WasmSpecRules.WasmSpec.BinaryTypes.{val_at};
 ghost use Rattle.wasm_operators.specs.WasmOperatorsPlain.WasmReaders.WrittenIndices.{written};
 ghost use Rattle.wasm_operators.specs.Maps.{map_block, map_control, map_parametric};

@@ -1,6 +1,5 @@
 //! Places of arrays that are read and written.
 
-ghost use Rattle.std.specs.Prelude.{◌≡◌};
 ghost use Rattle.wasm_operators_plain.specs.declared.arrays.ArrayOperator.TheVariants.{ArrayGet, ArrayGetS, ArrayGetU, ArraySet};
 ghost use Rattle.wasm_typing_checks.specs.WasmSpecSteps.Shapes.{array_shape, item};
 ghost use Rattle.wasm_typing_checks.specs.WasmTypingStacks.BodyStacks.{Kept};

@@ -1,6 +1,5 @@
 //! Many places of arrays that are written at once.
 
-ghost use Rattle.std.specs.Prelude.{◌≡◌};
 ghost use Rattle.wasm_operators_plain.specs.declared.arrays.ArrayOperator.TheVariants.{ArrayFill, ArrayCopy, ArrayInitData, ArrayInitElem};
 ghost use Rattle.wasm_typing_checks.specs.WasmSpecSteps.Shapes.{array_shape};
 ghost use Rattle.wasm_typing_checks.specs.WasmTypingStacks.BodyStacks.{Kept};

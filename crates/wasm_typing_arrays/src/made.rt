@@ -1,6 +1,5 @@
 //! New arrays.
 
-ghost use Rattle.std.specs.Prelude.{◌≡◌};
 ghost use Rattle.wasm_operators_plain.specs.declared.arrays.ArrayOperator.TheVariants.{ArrayNew, ArrayNewDefault, ArrayNewFixed, ArrayNewData, ArrayNewElem};
 ghost use Rattle.wasm_typing_checks.specs.WasmSpecSteps.Shapes.{array_shape};
 ghost use Rattle.wasm_typing_checks.specs.WasmTypingStacks.BodyStacks.{Kept};

@@ -1,6 +1,5 @@
 //! All operators on arrays.
 
-ghost use Rattle.std.specs.Prelude.{◌≡◌};
 ghost use Rattle.wasm_typing_checks.specs.WasmSpecSteps.Shapes.{array_shape};
 ghost use Rattle.wasm_typing_checks.specs.WasmTypingStacks.BodyStacks.{Kept};
 ghost use Rattle.wasm_typing_checks.specs.Steps.{Performs};

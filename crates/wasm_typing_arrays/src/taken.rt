@@ -1,6 +1,6 @@
 //! Many operands, and like ones.
 
-ghost use Rattle.std.specs.Prelude.{◌≡◌, ◌∷◌, []};
+ghost use Rattle.std.specs.Prelude.{◌∷◌, []};
 ghost use Rattle.wasm_typing_checks.specs.WasmTypingStacks.SeenTypeWords.{val_in};
 ghost use Rattle.wasm_typing_checks.specs.WasmSpecSteps.Machine.{pop_vals};
 ghost use Rattle.wasm_typing_checks.specs.WasmSpecSteps.Meanings.{copies};

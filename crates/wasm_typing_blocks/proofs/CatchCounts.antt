@@ -1,5 +1,5 @@
 -- Catch clauses, counted against their limit.
-use Rattle.std.proofs.Common.{◌≡◌, refl, sym, ap, ◌∙◌, ℕ, zero, suc, ◌<◌, ◌-◌, Bool, true, false, leb, List, [], ◌∷◌, length, Some, None, arith}
+use Rattle.std.proofs.Common.{◌≡◌, sym, ap, ◌∙◌, ℕ, zero, suc, ◌<◌, ◌-◌, Bool, true, false, leb, List, length, Some, None, arith}
 use Rattle.std.proofs.Math.Dec.{leb-suc-suc, leb-suc-zero}
 use Rattle.std.proofs.lemmas.Bool.{le-leb}
 use Rattle.wasm_operators.specs.declared.control.Catch.{Catch}

@@ -1,6 +1,5 @@
 //! `block`, `loop` and `if`.
 
-ghost use Rattle.std.specs.Prelude.{◌≡◌};
 ghost use Rattle.wasm_operators.specs.Control.{block, loop, if_};
 ghost use Rattle.wasm_operators.specs.SeenControl.{block_of};
 ghost use Rattle.wasm_typing_control.specs.WasmTypingChecks.WasmSpecSteps.Shapes.{control_shape, opening, block_checks, nothing};

@@ -1,6 +1,5 @@
 //! Block types by identities.
 
-ghost use Rattle.std.specs.Prelude.{◌≡◌};
 ghost use Rattle.wasm_operators.specs.Control.{value_block, func_block};
 ghost use Rattle.wasm_operators.specs.SeenControl.{block_of};
 ghost use Rattle.wasm_readers_types.specs.WasmReadersValues.SeenValues.{val_of};

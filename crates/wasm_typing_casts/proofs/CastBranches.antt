@@ -1,5 +1,5 @@
 -- What branches on casts send.
-use Rattle.std.proofs.Common.{◌≡◌, ℕ, Bool, true, false, ◌&&◌, List, [], ◌∷◌, ◌++◌, refl, ◌∙◌, ap}
+use Rattle.std.proofs.Common.{◌≡◌, ℕ, Bool, true, false, List, [], ◌∷◌, ◌++◌, refl, ◌∙◌, ap}
 use Rattle.std.specs.Prelude.{Some, None, Option, Result, if◌then◌else◌}
 use Rattle.std.proofs.Math.Bool.{and-true}
 use Rattle.wasm_typing_references.specs.WasmSpec.MatchingTests.{World, matches_val}

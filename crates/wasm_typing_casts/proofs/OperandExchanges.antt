@@ -1,5 +1,5 @@
 -- Operands that are taken with others above them.
-use Rattle.std.proofs.Common.{◌≡◌, List, [], ◌∷◌, ◌++◌, refl}
+use Rattle.std.proofs.Common.{◌≡◌, List, ◌∷◌, ◌++◌, refl}
 use Rattle.std.specs.Prelude.{Some, None}
 use Rattle.wasm_typing_references.specs.WasmSpec.MatchingTests.{World}
 use Rattle.wasm_typing_references.specs.WasmSpec.Syntax.{Val}

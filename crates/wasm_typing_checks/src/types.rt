@@ -1,6 +1,6 @@
 //! Types that operands are checked against, and that are given.
 
-ghost use Rattle.std.specs.Prelude.{◌≡◌, ◌≤◌, ◌∷◌, [], length, map, OnOk, OnErr};
+ghost use Rattle.std.specs.Prelude.{◌≡◌, ◌≤◌, ◌∷◌, [], length, OnOk, OnErr};
 ghost use Rattle.wasm_typing_stacks.specs.SeenTypeWords.{val_in};
 ghost use Rattle.wasm_typing_stacks.specs.WasmSpecSteps.Machine.{pop_vals, push_vals};
 ghost use Rattle.wasm_validator_resources.specs.Answers.{world};

@@ -1,13 +1,12 @@
 -- Operands whose types are known.
-use Rattle.std.proofs.Common.{◌≡◌, ◌≢◌, ℕ, ◌-◌, ◌+◌, ◌<◌, ◌≤◌, true, [], ◌∷◌, length, drop, map, refl, sym, ◌∙◌, ap, arith}
+use Rattle.std.proofs.Common.{◌≡◌, ◌≢◌, ℕ, ◌-◌, ◌+◌, ◌<◌, ◌≤◌, true, ◌∷◌, length, drop, map, sym, ◌∙◌, ap, arith}
 use Rattle.std.specs.Option.{option_map}
 use Rattle.std.specs.Prelude.{Some, slice_get}
 use Rattle.std.proofs.lemmas.Option.{slice_get-map}
-use Rattle.wasm_readers_types.specs.WasmSpec.MatchingTests.{World}
 use Rattle.wasm_readers_types.specs.WasmSpec.Syntax.{Val}
 use Rattle.wasm_typing_numbers.specs.WasmTypingChecks.WasmSpecRules.Contexts.{Context}
 use Rattle.wasm_readers_types.specs.WasmReadersValues.declared.indices.UnpackedIndex.{UnpackedIndex}
-use Rattle.wasm_typing_numbers.specs.WasmTypingChecks.WasmSpecSteps.Machine.{State, known, pop_any, pop_val, pop_vals, push_operand}
+use Rattle.wasm_typing_numbers.specs.WasmTypingChecks.WasmSpecSteps.Machine.{known, pop_any, pop_val, push_operand}
 use Rattle.wasm_typing_numbers.specs.WasmTypingChecks.WasmValidatorResources.Answers.{world}
 use Rattle.wasm_typing_numbers.specs.WasmTypingChecks.WasmTypingStacks.BodyStacks.{state_of, below}
 use Rattle.wasm_typing_numbers.specs.WasmTypingChecks.WasmTypingStacks.SeenOperands.{operand_of}

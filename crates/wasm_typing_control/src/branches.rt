@@ -1,11 +1,9 @@
 //! Branches.
 
-ghost use Rattle.std.specs.Prelude.{◌≡◌};
 ghost use Rattle.wasm_typing_numbers.specs.WasmOperators.Control.{br, br_if, return_, unreachable, nop};
 ghost use Rattle.wasm_typing_numbers.specs.WasmSpecSteps.Shapes.{control_shape};
 ghost use Rattle.wasm_typing_numbers.specs.WasmTypingStacks.BodyStacks.{Kept};
 ghost use Rattle.wasm_typing_numbers.specs.WasmTypingChecks.Steps.{Performs};
-ghost use Rattle.wasm_readers_types.specs.WasmReadersValues.declared.indices.UnpackedIndex.{UnpackedIndex};
 
 use crate::labels::{label_types, returned_types};
 use std::alloc::Allocator;

@@ -1,6 +1,5 @@
 //! Operators on globals.
 
-ghost use Rattle.std.specs.Prelude.{◌≡◌, slice_get};
 ghost use Rattle.wasm_typing_numbers.specs.WasmOperators.WasmOperatorsPlain.declared.variables.VariableOperator.TheVariants.{GlobalGet, GlobalSet};
 ghost use Rattle.wasm_typing_numbers.specs.WasmSpecSteps.Shapes.{variable_shape};
 ghost use Rattle.wasm_typing_numbers.specs.WasmTypingStacks.BodyStacks.{Kept};

@@ -1,6 +1,6 @@
 //! Operators that take some operands, whose types are known, and give others.
 
-ghost use Rattle.std.specs.Prelude.{◌≡◌, ◌∷◌, [], Option};
+ghost use Rattle.std.specs.Prelude.{◌∷◌, [], Option};
 ghost use Rattle.wasm_readers_types.specs.WasmReadersValues.declared.indices.UnpackedIndex.{UnpackedIndex};
 ghost use Rattle.wasm_typing_numbers.specs.WasmTypingChecks.WasmSpecSteps.Machine.{State};
 ghost use Rattle.wasm_typing_numbers.specs.WasmTypingChecks.WasmValidatorResources.Answers.{world};

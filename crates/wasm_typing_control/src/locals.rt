@@ -1,7 +1,6 @@
 //! Operators on locals, and `drop`.
 
-ghost use Rattle.std.specs.Prelude.{◌≡◌, ◌||◌, OnOk, OnErr, IsSome, Some, slice_get};
-ghost use Rattle.std.specs.Option.{option_map};
+ghost use Rattle.std.specs.Prelude.{◌≡◌, ◌||◌, OnOk, OnErr, Some};
 ghost use Rattle.wasm_typing_numbers.specs.WasmOperators.WasmOperatorsPlain.declared.variables.VariableOperator.TheVariants.{LocalGet, LocalSet, LocalTee};
 ghost use Rattle.wasm_typing_numbers.specs.WasmTypingChecks.WasmValidatorResources.WasmSpecRules.Attempts.{among};
 ghost use Rattle.wasm_typing_numbers.specs.WasmSpecSteps.Machine.{set_local};

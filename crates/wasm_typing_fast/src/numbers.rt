@@ -1,6 +1,6 @@
 //! Constants and numeric operators.
 
-ghost use Rattle.std.specs.Prelude.{◌≡◌, ◌∷◌, []};
+ghost use Rattle.std.specs.Prelude.{◌∷◌, []};
 ghost use Rattle.wasm_operators_plain.specs.declared.signatures.Signature.TheVariants.{Unary, Binary};
 ghost use Rattle.wasm_typing_control.specs.WasmTypingChecks.WasmSpecSteps.Actions.{allows};
 ghost use Rattle.wasm_typing_control.specs.WasmTypingChecks.WasmSpecSteps.Shapes.{computing, number_type, nothing, one, plain as plain_shape};

@@ -21,7 +21,7 @@ use Rattle.wasm_operators.specs.declared.immediates.ImmediateValues.TheVariants 
 use Rattle.wasm_typing_checks.specs.WasmSpecRules.Contexts.{Context}
 use Rattle.wasm_typing_checks.specs.WasmSpecRules.FeatureFlags.{features_of}
 use Rattle.wasm_typing_checks.specs.WasmSpecRules.Signatures.{resolve_val, resolve_vals}
-use Rattle.wasm_typing_checks.specs.WasmSpecSteps.Actions.{OperandTypes, these, joined, memory_address, suits, allows, Check, Action, need}
+use Rattle.wasm_typing_checks.specs.WasmSpecSteps.Actions.{these, joined, memory_address, suits, allows, Action, need}
 use Rattle.wasm_typing_checks.specs.WasmSpecSteps.Forms.{value_type, operand_types, result_types, types_taken, types_given, allows_each, suits_immediates, suits_form, memarg_of, reaches_memory}
 use Rattle.wasm_typing_checks.specs.WasmSpecSteps.Shapes.{address_of, allow_each}
 use Rattle.wasm_typing_checks.specs.WasmSpecSteps.Machine.{State}

@@ -1,5 +1,5 @@
 -- Checks that compare types.
-use Rattle.std.proofs.Common.{◌≡◌, Bool, false, ◌&&◌, List, [], ◌∷◌, refl, ◌∙◌}
+use Rattle.std.proofs.Common.{◌≡◌, Bool, false, List, [], ◌∷◌, refl, ◌∙◌}
 use Rattle.std.specs.Prelude.{Option, Some, None}
 use Rattle.std.proofs.Math.Bool.{and-true}
 use Rattle.wasm_readers_errors.specs.WasmSpec.Syntax.{Val}

@@ -1,10 +1,6 @@
 //! Operators on many elements of tables and on element segments.
 
-ghost use Rattle.std.specs.Prelude.{◌≡◌, ◌&&◌, is_some, slice_get};
 ghost use Rattle.wasm_operators.specs.WasmOperatorsPlain.declared.tables.TableOperator.TheVariants.{TableCopy, TableInit, ElemDrop};
-ghost use Rattle.wasm_readers_types.specs.WasmReadersValues.declared.indices.UnpackedIndex.{UnpackedIndex};
-ghost use Rattle.wasm_typing_checks.specs.WasmTypingStacks.SeenTypeWords.{val_in};
-ghost use Rattle.wasm_typing_checks.specs.WasmSpecSteps.Meanings.{address as address_by};
 ghost use Rattle.wasm_typing_checks.specs.WasmSpecSteps.Shapes.{table_shape};
 ghost use Rattle.wasm_typing_checks.specs.WasmTypingStacks.BodyStacks.{Kept};
 ghost use Rattle.wasm_typing_checks.specs.Steps.{Performs};

@@ -4,7 +4,7 @@ ghost use Rattle.std.specs.Prelude.{◌≡◌, ◌∷◌, [], ◌++◌, ◌||◌
 ghost use Rattle.wasm_readers_errors.specs.WasmSpec.ValueTypes.{allows_val};
 ghost use Rattle.wasm_readers_types.specs.WasmReadersValues.declared.indices.UnpackedIndex.{UnpackedIndex};
 ghost use Rattle.wasm_typing_checks.specs.WasmSpecRules.FeatureFlags.{features_of};
-ghost use Rattle.wasm_typing_checks.specs.WasmSpecSteps.Forms.{value_type, operand_types, types_taken, types_given, result_types, allows_each, allows_alignment, is_lane_of_two, are_lanes_of_two, all_lanes_of_two, suits_immediates, suits_access, suits_form, memarg_of};
+ghost use Rattle.wasm_typing_checks.specs.WasmSpecSteps.Forms.{value_type, operand_types, result_types, allows_each, allows_alignment, is_lane_of_two, are_lanes_of_two, all_lanes_of_two, suits_immediates, suits_access, suits_form, memarg_of};
 ghost use Rattle.wasm_typing_checks.specs.WasmSpecSteps.Shapes.{form_shape, vector_shape, atomic_shape};
 ghost use Rattle.wasm_typing_checks.specs.WasmTypingStacks.SeenTypeWords.{val_in};
 ghost use Rattle.wasm_typing_checks.specs.WasmTypingStacks.BodyStacks.{Kept};

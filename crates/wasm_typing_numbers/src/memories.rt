@@ -1,11 +1,8 @@
 //! Operators on memories, loads and stores aside.
 
-ghost use Rattle.std.specs.Prelude.{◌≡◌, ◌&&◌, nat_lt};
+ghost use Rattle.std.specs.Prelude.{◌≡◌, nat_lt};
 ghost use Rattle.wasm_operators.specs.WasmOperatorsPlain.declared.memories.BulkMemoryOperator.TheVariants.{MemorySize, MemoryGrow, MemoryFill, MemoryCopy, MemoryInit, DataDrop, MemoryDiscard};
-ghost use Rattle.wasm_readers_types.specs.WasmReadersValues.declared.indices.UnpackedIndex.{UnpackedIndex};
-ghost use Rattle.wasm_typing_checks.specs.WasmTypingStacks.SeenTypeWords.{val_in};
 ghost use Rattle.wasm_typing_checks.specs.WasmSpecRules.Attempts.{passes};
-ghost use Rattle.wasm_typing_checks.specs.WasmSpecSteps.Meanings.{address as address_by};
 ghost use Rattle.wasm_typing_checks.specs.WasmSpecSteps.Shapes.{memory_shape};
 ghost use Rattle.wasm_typing_checks.specs.WasmTypingStacks.BodyStacks.{Kept};
 ghost use Rattle.wasm_typing_checks.specs.Steps.{Performs};

@@ -1,6 +1,6 @@
 //! Constants and numeric operators.
 
-ghost use Rattle.std.specs.Prelude.{◌≡◌, ◌∷◌, []};
+ghost use Rattle.std.specs.Prelude.{◌∷◌, []};
 ghost use Rattle.wasm_readers_errors.specs.WasmSpec.Syntax.{v128};
 ghost use Rattle.wasm_operators.specs.WasmOperatorsPlain.declared.signatures.Signature.TheVariants.{Unary, Binary};
 ghost use Rattle.wasm_typing_checks.specs.WasmSpecSteps.Actions.{allows};

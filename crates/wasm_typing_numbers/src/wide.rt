@@ -1,6 +1,5 @@
 //! Operators on integers of 128 bits.
 
-ghost use Rattle.std.specs.Prelude.{◌≡◌};
 ghost use Rattle.wasm_typing_checks.specs.WasmSpecSteps.Shapes.{wide_shape};
 ghost use Rattle.wasm_typing_checks.specs.WasmTypingStacks.BodyStacks.{Kept};
 ghost use Rattle.wasm_typing_checks.specs.Steps.{Performs};

@@ -1,7 +1,6 @@
 //! The codes of heap types.
 
-ghost use Rattle.std.specs.Prelude.{◌≡◌, ◌<◌, ◌≤◌, ◌+◌, ◌*◌, ◌^◌, ◌/◌, ◌%◌};
-ghost use Rattle.wasm_operators_plain.specs.WasmReadersTypes.WasmReadersValues.Indices.{number_of};
+ghost use Rattle.std.specs.Prelude.{◌≡◌, ◌<◌, ◌+◌, ◌*◌, ◌^◌, ◌/◌, ◌%◌};
 ghost use Rattle.wasm_operators_plain.specs.WasmReadersTypes.WasmReadersValues.SeenValues.{abstract_heap_of, heap_of, ref_of, HeapFits};
 ghost use Rattle.wasm_operators_plain.specs.WasmReadersTypes.WasmReadersValues.declared.indices.TheConstants.{MAX_IDS};
 ghost use Rattle.wasm_typing_stacks.specs.TypeWords.{abstract_at, index_at, heap_at, ref_at, heap_number};

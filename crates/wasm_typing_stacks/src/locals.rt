@@ -1,6 +1,6 @@
 //! The locals of a body, and which of them are set.
 
-ghost use Rattle.std.specs.Prelude.{◌≡◌, ◌+◌, ◌-◌, ◌^◌, ◌<◌, ◌≤◌, ◌∷◌, ◌++◌, [], false, length, drop, slice_get, map, nat_le, replicate, vec_len, IfOk, OnOk, OnErr, IsTrue, ◌↔◌};
+ghost use Rattle.std.specs.Prelude.{◌≡◌, ◌+◌, ◌-◌, ◌^◌, ◌<◌, ◌≤◌, ◌∷◌, ◌++◌, [], false, length, drop, slice_get, map, replicate, IfOk, OnOk, OnErr, IsTrue, ◌↔◌};
 ghost use Rattle.std.specs.Option.{option_map};
 ghost use Rattle.wasm_spec_steps.specs.WasmSpecRules.Attempts.{among};
 ghost use Rattle.wasm_typing_stacks.specs.Locals.{local_of};

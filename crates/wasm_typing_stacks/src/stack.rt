@@ -1,7 +1,7 @@
 //! A stack over a `Vec`. It counts its items itself, so that what gives one puts it into a place that
 //! is there already, and only a stack that grows calls out.
 
-ghost use Rattle.std.specs.Prelude.{◌≡◌, ◌+◌, ◌-◌, ◌++◌, take, ◌<◌, ◌≤◌, ◌∷◌, [], length, drop, reverse, slice_get, IfSome, IfOk, OnOk, OnErr, true, false};
+ghost use Rattle.std.specs.Prelude.{◌≡◌, ◌+◌, ◌-◌, ◌++◌, take, ◌<◌, ◌≤◌, ◌∷◌, [], length, drop, reverse, slice_get, IfOk, OnOk, OnErr, true, false};
 
 use std::alloc::{AllocError, Allocator, Global};
 use std::marker::Model;

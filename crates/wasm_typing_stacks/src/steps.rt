@@ -1,10 +1,10 @@
 //! What operators do to the stacks.
 
-ghost use Rattle.std.specs.Prelude.{◌≡◌, ◌≤◌, ◌-◌, ◌∷◌, [], true, false, Some, length, drop, replicate, ◌++◌, ◌+◌, map, OnOk, OnErr};
+ghost use Rattle.std.specs.Prelude.{◌≡◌, ◌≤◌, ◌-◌, [], true, false, Some, length, drop, ◌+◌, map, OnOk, OnErr};
 ghost use Rattle.wasm_spec_steps.specs.Machine.{push_operand, pushed_onto, push_vals, push_frame, become_unreachable};
 ghost use Rattle.wasm_operators_plain.specs.WasmReadersTypes.WasmReadersValues.SeenValues.{val_of};
 ghost use Rattle.wasm_typing_stacks.specs.SeenOperands.{operand_of};
-ghost use Rattle.wasm_typing_stacks.specs.SeenBlocks.{block_in, kind_of, frame_of};
+ghost use Rattle.wasm_typing_stacks.specs.SeenBlocks.{block_in, kind_of};
 ghost use Rattle.wasm_typing_stacks.specs.BodyStacks.{state_of, below, with_frame, Kept};
 
 use crate::TypeWord;

@@ -19,7 +19,7 @@ pub struct TypeWord {
 }
 
 impl TypeWord {
-    ghost use Rattle.std.specs.Prelude.{◌≡◌, true};
+    ghost use Rattle.std.specs.Prelude.{◌≡◌};
     ghost use Rattle.wasm_operators_plain.specs.WasmReadersTypes.WasmReadersValues.SeenValues.{ref_of, val_of};
     ghost use Rattle.wasm_operators_plain.specs.WasmSpec.Syntax.{reference};
     ghost use Rattle.wasm_typing_stacks.specs.SeenTypeWords.{val_in, number_val};

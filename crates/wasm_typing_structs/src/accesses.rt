@@ -1,6 +1,5 @@
 //! Fields that are read and written.
 
-ghost use Rattle.std.specs.Prelude.{◌≡◌};
 ghost use Rattle.wasm_operators_plain.specs.declared.structs.StructOperator.TheVariants.{StructGet, StructGetS, StructGetU, StructSet};
 ghost use Rattle.wasm_typing_checks.specs.WasmSpecSteps.Shapes.{getting, struct_shape};
 ghost use Rattle.wasm_typing_checks.specs.WasmTypingStacks.BodyStacks.{Kept};

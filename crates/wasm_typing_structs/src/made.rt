@@ -1,6 +1,5 @@
 //! New structures.
 
-ghost use Rattle.std.specs.Prelude.{◌≡◌};
 ghost use Rattle.wasm_operators_plain.specs.declared.structs.StructOperator.TheVariants.{StructNew, StructNewDefault, StructNewDesc, StructNewDefaultDesc};
 ghost use Rattle.wasm_typing_checks.specs.WasmSpecSteps.Shapes.{struct_shape};
 ghost use Rattle.wasm_typing_checks.specs.WasmTypingStacks.BodyStacks.{Kept};

@@ -1,7 +1,6 @@
 //! Operators that compilers write less often, read without refusals.
 
 ghost use Rattle.std.specs.Prelude.{◌≡◌, ◌≤◌, ◌<◌, Some, IfSome, OnSome};
-ghost use Rattle.std.specs.Option.{option_map};
 ghost use Rattle.wasm_readers.specs.WasmReadersBytes.Reader.{SameInput, position_in, rest};
 ghost use Rattle.wasm_readers.specs.WrittenIndices.{written};
 ghost use Rattle.wasm_readers_types.specs.WasmReadersValues.SeenValues.{heap_of};

@@ -6,7 +6,7 @@ use Rattle.std.specs.declared.result.Result.TheVariants.{Ok, Err}
 use Rattle.wasm_spec.specs.Framing as framing
 use Rattle.wasm_spec.specs.Framing.{Piece, Version, Custom, Counted, Start, DataCount, CodeStart, CodeEntry, Unknown}
 use Rattle.wasm_spec_rules.specs.StateTable as table
-use Rattle.wasm_spec_rules.specs.StateTable.{Phase, Call, accepted_to, refused_to}
+use Rattle.wasm_spec_rules.specs.StateTable.{Phase, Call, refused_to}
 use Rattle.wasm_validator_modules.specs.WasmValidatorCore.declared.error.Error.{Error}
 use Rattle.wasm_validator_modules.specs.WasmValidatorCore.declared.error.Error.TheVariants.{Refused, DuplicateExport, InFunction, OutOfMemory}
 use Rattle.wasm_validator_modules.specs.WasmValidatorCore.Answers.{TypesSoFar}

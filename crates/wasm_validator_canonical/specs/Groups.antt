@@ -1,6 +1,6 @@
 -- What one recursion group adds to the types of a validator and of a module. Core Specification 3.0, Validation, Types
 -- (Recursive Types), with the types of a list in place of a module's.
-use Rattle.std.specs.Prelude.{ℕ, ◌==◌, nat_le, if◌then◌else◌, Bool, true, false, not, ◌&&◌, ◌||◌, List, [], ◌++◌, map, length, get_or, Option, Some, None}
+use Rattle.std.specs.Prelude.{ℕ, ◌==◌, nat_le, if◌then◌else◌, Bool, true, false, not, ◌&&◌, ◌||◌, List, ◌++◌, map, length, get_or, Option, Some, None}
 use Rattle.std.specs.Option.{option_map, option_and_then}
 use Rattle.std.specs.List.{list_all, All}
 use Rattle.wasm_spec.specs.Syntax.{Rec, map_rec}

@@ -1,6 +1,6 @@
 -- The refusals of groups that aren't written as a list of types can have them.
 use Rattle.std.specs.Prelude.{ℕ, nat_lt, if◌then◌else◌}
-use Rattle.std.specs.declared.option.Option.TheVariants.{Some, None}
+use Rattle.std.specs.declared.option.Option.TheVariants.{Some}
 pub use Rattle.wasm_readers_errors.specs.Refusals.{plain}
 use Rattle.wasm_readers_errors.specs.Refusals.{lacking}
 use Rattle.wasm_readers_errors.specs.declared.error.Fault.{Fault}

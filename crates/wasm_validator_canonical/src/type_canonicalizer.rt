@@ -20,10 +20,10 @@
 //! collection of one of the group; and what a type extends or describes must come before it
 //! (`type_canonicalizer/sub_types.rt`). These are the only refusals for content here.
 
-ghost use Rattle.std.specs.Prelude.{◌≡◌, ◌+◌, ◌<◌, ◌^◌, [], map, length, is_ok, IfOk, IfErr, IsTrue, true, false};
-ghost use Rattle.std.specs.List.{list_all, flat_map};
+ghost use Rattle.std.specs.Prelude.{◌≡◌, ◌+◌, ◌<◌, ◌^◌, map, length, is_ok, IfOk, IfErr, true, false};
+ghost use Rattle.std.specs.List.{list_all};
 ghost use Rattle.wasm_spec.specs.Syntax.{map_ref, map_val, map_field, map_comp};
-ghost use Rattle.wasm_spec.specs.References.{refs_heap, refs_val, refs_field, refs_comp};
+ghost use Rattle.wasm_spec.specs.References.{refs_heap, refs_comp};
 ghost use Rattle.wasm_readers_types.specs.WasmReadersValues.declared.indices.TheConstants.{MAX_IDS};
 ghost use Rattle.wasm_readers_types.specs.WasmReadersValues.Indices.{Fits};
 ghost use Rattle.wasm_readers_types.specs.WasmReadersValues.SeenValues.{index_of, ref_of, val_of, field_of};

@@ -4,11 +4,10 @@
 
 ghost use Rattle.std.specs.Prelude.{◌≡◌, ◌+◌, length, IsTrue, is_ok, IfOk, IfErr};
 ghost use Rattle.wasm_validator_checks.specs.Answers.{IsRefusalAt};
-ghost use Rattle.std.specs.List.{All};
-ghost use Rattle.wasm_spec.specs.Syntax.{map_ref, map_val, map_table, map_global, map_extern};
+ghost use Rattle.wasm_spec.specs.Syntax.{map_ref, map_table, map_global, map_extern};
 ghost use Rattle.wasm_validator_resources.specs.WasmSpecRules.FeatureFlags.{features_of};
 ghost use Rattle.wasm_readers_types.specs.WasmReadersValues.Indices.{Fits};
-ghost use Rattle.wasm_readers_types.specs.WasmReadersValues.SeenValues.{ref_of, val_of};
+ghost use Rattle.wasm_readers_types.specs.WasmReadersValues.SeenValues.{ref_of};
 ghost use Rattle.wasm_readers_types.specs.SeenExterns.{table_of, global_of, extern_of};
 ghost use Rattle.wasm_validator_canonical.specs.Indices.{numbers, canonical_index};
 ghost use Rattle.wasm_validator_checks.specs.ModuleTypes.{AreKnown, module_types};

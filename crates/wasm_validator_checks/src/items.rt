@@ -1,6 +1,6 @@
 //! Tables, memories, tags, globals and imports.
 
-ghost use Rattle.std.specs.Prelude.{◌≡◌, ◌≤◌, length, is_ok, IfOk, IfErr};
+ghost use Rattle.std.specs.Prelude.{◌≡◌, ◌≤◌, is_ok, IfOk, IfErr};
 ghost use Rattle.std.specs.declared.option.Option.TheVariants.{Some};
 ghost use Rattle.wasm_validator_resources.specs.WasmSpecRules.FeatureFlags.{features_of};
 ghost use Rattle.wasm_readers_types.specs.WasmReadersValues.SeenValues.{ref_of, val_of};
@@ -9,7 +9,7 @@ ghost use Rattle.wasm_validator_checks.specs.Answers.{IsRefusalAt, IsPlainRefusa
 ghost use Rattle.wasm_validator_checks.specs.ModuleTypes.{AreKnown, module_types};
 ghost use Rattle.wasm_validator_checks.specs.Items.{is_funcref, is_allowed_element, is_allowed_content, are_at_most, is_allowed_page, log_of, most_of, is_valid_table, is_valid_defined_table, is_valid_memory, is_valid_tag, is_valid_global, is_movable_global, is_valid_extern};
 ghost use Rattle.wasm_readers.specs.WasmReadersErrors.Refusals.{refused};
-ghost use Rattle.wasm_validator_checks.specs.ItemRefusals.{told_of_content, told_of_defined_table, told_of_element, told_of_extern, told_of_global, told_of_memory, told_of_movable, told_of_page, told_of_pages, told_of_sizes, told_of_table, told_of_tag};
+ghost use Rattle.wasm_validator_checks.specs.ItemRefusals.{told_of_content, told_of_defined_table, told_of_element, told_of_extern, told_of_global, told_of_memory, told_of_movable, told_of_page, told_of_pages, told_of_table, told_of_tag};
 
 use crate::limits::{check_limits, check_sizes};
 use crate::module_types::{

@@ -1,6 +1,6 @@
 //! Sizes of tables and memories.
 
-ghost use Rattle.std.specs.Prelude.{◌≡◌, is_ok, IfErr, nat_le};
+ghost use Rattle.std.specs.Prelude.{◌≡◌, is_ok, IfErr};
 ghost use Rattle.wasm_validator_checks.specs.Answers.{IsPlainRefusalAt};
 ghost use Rattle.wasm_validator_checks.specs.Items.{are_ordered, are_at_most};
 ghost use Rattle.wasm_readers.specs.WasmReadersErrors.Refusals.{refused};

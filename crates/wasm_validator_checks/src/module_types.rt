@@ -1,6 +1,6 @@
 //! Type indices of items, and the types that they stand for.
 
-ghost use Rattle.std.specs.Prelude.{◌≡◌, ◌<◌, length, is_ok, is_some, IfOk, IfErr, IsTrue};
+ghost use Rattle.std.specs.Prelude.{◌≡◌, ◌<◌, length, is_ok, IfOk, IfErr, IsTrue};
 ghost use Rattle.std.specs.declared.option.Option.TheVariants.{Some};
 ghost use Rattle.wasm_spec.specs.Matching.{is_shared_type};
 ghost use Rattle.wasm_spec.specs.Trees.{declared};

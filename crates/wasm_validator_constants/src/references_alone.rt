@@ -1,6 +1,6 @@
 //! References as items.
 
-ghost use Rattle.std.specs.Prelude.{◌≡◌, ◌≤◌, true, false, [], ◌∷◌, IfOk};
+ghost use Rattle.std.specs.Prelude.{◌≡◌, ◌≤◌, true, false, [], IfOk};
 ghost use Rattle.wasm_spec.specs.Features.{Features};
 ghost use Rattle.wasm_spec.specs.Syntax.{Val};
 ghost use Rattle.wasm_validator_resources.specs.WasmSpecRules.Contexts.{Context};

@@ -1,5 +1,5 @@
 -- Types that a list has committed, where each reference is an id.
-use Rattle.std.proofs.Common.{◌≡◌, refl, sym, ap, subst, ◌∙◌, ℕ, zero, suc, ◌+◌, ◌<◌, ◌≤◌, List, [], ◌∷◌, ◌++◌, map, length, take, arith, All}
+use Rattle.std.proofs.Common.{◌≡◌, refl, sym, ap, ◌∙◌, ℕ, zero, suc, ◌+◌, ◌≤◌, List, [], ◌∷◌, ◌++◌, map, length, take, arith, All}
 use Rattle.std.proofs.Math.Seq.{take-append_seam, take-length}
 use Rattle.std.proofs.lemmas.List.{map-append, take-map}
 use Rattle.std.proofs.lemmas.List.Elements.{All-head, All-tail, All-weaker, recursion_from_All}

@@ -1,6 +1,6 @@
 //! The validator of one function body.
 
-ghost use Rattle.std.specs.Prelude.{◌≡◌, ◌≤◌, ◌<◌, ◌^◌, ◌-◌, ◌||◌, true, false, not, is_ok, is_some, length, slice_get, IfOk, IfErr, OnOk, OnErr};
+ghost use Rattle.std.specs.Prelude.{◌≡◌, ◌≤◌, ◌<◌, ◌^◌, ◌-◌, ◌||◌, true, false, not, is_ok, is_some, length, slice_get, IfOk, IfErr, OnOk};
 ghost use Rattle.std.specs.Option.{option_map};
 ghost use Rattle.wasm_readers_bytes.specs.Reader.{SameInput, position_in, place_of_next, rest};
 ghost use Rattle.wasm_spec_rules.specs.FeatureFlags.{features_of};

@@ -16,7 +16,6 @@ ghost use Rattle.wasm_readers_types.specs.declared.types.SubType.{SubType};
 ghost use Rattle.wasm_validator_types.specs.WasmValidatorTypeList.ListViews.{Listing};
 ghost use Rattle.wasm_validator_types.specs.Spaces.{Spaces};
 ghost use Rattle.wasm_validator_core.specs.declared.limits.TheConstants.{MAX_DATA_SEGMENTS};
-ghost use Rattle.wasm_validator_types.specs.WasmValidatorTypeList.DefTypes.{types_of_list};
 
 use crate::section_items::{ItemLimit, SectionItem};
 use std::alloc::Allocator;

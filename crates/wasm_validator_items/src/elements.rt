@@ -21,7 +21,6 @@ ghost use Rattle.wasm_readers_errors.specs.declared.error.Counted.TheVariants as
 ghost use Rattle.wasm_readers_types.specs.declared.types.SubType.{SubType};
 ghost use Rattle.wasm_validator_types.specs.WasmValidatorTypeList.ListViews.{Listing};
 ghost use Rattle.wasm_validator_types.specs.Spaces.{Spaces};
-ghost use Rattle.wasm_validator_types.specs.WasmValidatorTypeList.DefTypes.{types_of_list};
 ghost use Rattle.wasm_validator_items.specs.ItemSteps.{naming_step};
 
 use crate::section_items::{ItemLimit, SectionItem};

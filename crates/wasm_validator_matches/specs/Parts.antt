@@ -15,7 +15,7 @@ use Rattle.wasm_readers_types.specs.WasmReadersValues.declared.values.ValType.{V
 use Rattle.wasm_readers_types.specs.WasmReadersValues.declared.values.StorageType.{StorageType}
 use Rattle.wasm_readers_types.specs.WasmReadersValues.declared.values.FieldType.{FieldType}
 use Rattle.wasm_readers_types.specs.WasmReadersValues.SeenValues.{ref_of, val_of, storage_of, field_of}
-use Rattle.wasm_readers_types.specs.SeenTypes.{array_of, cont_of, comp_of, sub_of}
+use Rattle.wasm_readers_types.specs.SeenTypes.{array_of, cont_of, comp_of}
 use Rattle.wasm_validator_type_list.specs.DeclarationsById.{declares}
 use Rattle.wasm_validator_type_list.specs.GroupTypes.{leads_in, AreIn, RefsMatch, ValsMatch, StoragesMatch, FieldsMatch, SubsMatch}
 use Rattle.wasm_validator_matches.specs.declared.with_rec_group.WithRecGroup.{WithRecGroup}

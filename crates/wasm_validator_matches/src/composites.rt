@@ -1,10 +1,10 @@
 //! Matching of composite types, each in the group that its references stand in.
 
-ghost use Rattle.std.specs.Prelude.{◌≡◌, ◌<◌, length};
+ghost use Rattle.std.specs.Prelude.{◌<◌};
 ghost use Rattle.std.specs.Bool.{Decides};
 ghost use Rattle.std.specs.List.{All, AllZip};
-ghost use Rattle.wasm_spec.specs.References.{refs_val, refs_field, refs_comp};
-ghost use Rattle.wasm_readers_types.specs.WasmReadersValues.SeenValues.{val_of, field_of};
+ghost use Rattle.wasm_spec.specs.References.{refs_field, refs_comp};
+ghost use Rattle.wasm_readers_types.specs.WasmReadersValues.SeenValues.{field_of};
 ghost use Rattle.wasm_readers_types.specs.SeenTypes.{comp_of};
 ghost use Rattle.wasm_validator_type_list.specs.GroupTypes.{AreIn, ValsMatch, FieldListsMatch, CompsMatch};
 ghost use Rattle.wasm_validator_matches.specs.Parts.{ListStands, SignaturesAgree};

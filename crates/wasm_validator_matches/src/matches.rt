@@ -1,10 +1,9 @@
 //! Matching of parts of types (Core Specification 3.0, Validation, Matching).
 
-ghost use Rattle.std.specs.Prelude.{◌≡◌, List};
+ghost use Rattle.std.specs.Prelude.{List};
 ghost use Rattle.std.specs.Bool.{Decides};
 ghost use Rattle.wasm_readers_types.specs.SeenTypes.{func_of, struct_of, comp_of};
 ghost use Rattle.wasm_readers_types.specs.declared.types.SubType.{SubType};
-ghost use Rattle.wasm_validator_type_list.specs.ListViews.{types_in};
 ghost use Rattle.wasm_validator_matches.specs.Parts.{RefStands, ValStands, StorageStands, FieldStands, ArrayStands, ContStands, RefsAgree, ValsAgree, StoragesAgree, FieldsAgree, ArraysAgree, ContsAgree, CompStands, CompsAgree, CompositesAgree, SubsAgree};
 
 use crate::composites::{all_fields_match, func_signature_matches, inners_match};

@@ -1,7 +1,7 @@
 //! Ids of types and of recursion groups as two traits, for code that treats both alike: what each
 //! stands for in a list of types, and how large that is.
 
-ghost use Rattle.std.specs.Prelude.{◌≡◌, ◌<◌, ◌≤◌, ◌^◌, ℕ, Bool, true, false, List};
+ghost use Rattle.std.specs.Prelude.{◌≡◌, ◌<◌, ◌^◌, ℕ, Bool, true, false, List};
 ghost use Rattle.wasm_validator_matches.specs.Sizes.{size_of_inner};
 
 use std::alloc::Allocator;

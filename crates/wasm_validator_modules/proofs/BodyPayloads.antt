@@ -18,7 +18,6 @@ use Rattle.wasm_validator_states.specs.Payloads.{Rejects, Validates}
 use Rattle.wasm_validator_states.specs.BodyAnswers.{body_seen}
 use Rattle.wasm_validator_states.proofs.WholeModules.{refusal}
 use Rattle.wasm_validator_modules.specs.PayloadAnswers.{EndsBy, AllEndBy, bodies_seen, Gathers, GathersNothing}
-use Rattle.wasm_validator_modules.specs.declared.payload.Bodies.{Bodies}
 use Rattle.wasm_validator_modules.specs.declared.payload.Gathered.{Gathered}
 use Rattle.wasm_validator_modules.specs.declared.payload.ValidPayload.{ValidPayload}
 use Rattle.wasm_validator_modules.specs.declared.payload.ValidPayload.TheVariants.{Func}

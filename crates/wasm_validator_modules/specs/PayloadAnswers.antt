@@ -23,7 +23,6 @@ use Rattle.wasm_readers.specs.WasmReadersBytes.declared.binary_reader.BinaryRead
 use Rattle.wasm_readers_errors.specs.declared.error.Error as reading
 use Rattle.wasm_readers_errors.specs.declared.error.Error.TheVariants as reading_error
 use Rattle.std.specs.List.{All}
-use Rattle.wasm_validator_states.specs.WasmValidatorSections.WasmValidatorFunc.declared.func_validator.FuncToValidate.{FuncToValidate}
 use Rattle.wasm_validator_states.specs.ValidatorStages.{Standing, Leaves}
 use Rattle.wasm_validator_states.specs.States.{IsBeforeEnd, BodyToValidate, after_piece, handed, left_by, takes_memory, code_count}
 use Rattle.wasm_validator_states.specs.BodyAnswers.{body_seen}

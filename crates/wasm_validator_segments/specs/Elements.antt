@@ -2,7 +2,7 @@
 -- Core Specification 3.0, Validation, Modules (Element Segments), and Binary Format, Modules (Element Section).
 use Rattle.std.specs.Prelude.{ℕ, Bool, true, false, ◌==◌, nat_lt, if◌then◌else◌, List, Option, Some, None, slice_get}
 use Rattle.std.specs.Option.{option_map, option_and_then}
-use Rattle.wasm_spec.specs.Syntax.{Ref, Val, reference}
+use Rattle.wasm_spec.specs.Syntax.{Val, reference}
 use Rattle.wasm_spec.specs.Values.{u32_at}
 use Rattle.wasm_spec.specs.BinaryTypes.{has_bit, flags_at}
 use Rattle.wasm_spec.specs.BinarySections.{ref_func}

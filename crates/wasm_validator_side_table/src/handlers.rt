@@ -1,9 +1,7 @@
 //! Handlers of operators that resume continuations, which are noted.
 
-ghost use Rattle.std.specs.Prelude.{◌≡◌, ℕ, [], ◌∷◌, OnOk, Some, IfSome};
-ghost use Rattle.wasm_operators.specs.Continuations.{handle_at};
+ghost use Rattle.std.specs.Prelude.{◌≡◌, [], ◌∷◌, OnOk, Some, IfSome};
 ghost use Rattle.wasm_operators.specs.SeenContinuations.{continuation_of, handles_of};
-ghost use Rattle.wasm_operators.specs.SeenLists.{listed};
 ghost use Rattle.wasm_spec_steps.specs.Actions.{OperandTypes};
 ghost use Rattle.wasm_spec_side_tables.specs.SideTables.{handling_to, continuation_branches, handle_branches};
 ghost use Rattle.wasm_validator_side_table.specs.TableViews.{shown, planned_one, planned_in};

@@ -13,7 +13,7 @@ use Rattle.wasm_validator_canonical.specs.Groups.{AreValid}
 use Rattle.wasm_validator_type_list.specs.DefTypes.{types_of_list}
 use Rattle.wasm_validator_types.specs.ShownModules.{Shown, HoldsIds}
 use Rattle.wasm_validator_states.specs.ValidatorStages.{shown_at, Standing, ended}
-use Rattle.wasm_validator_type_list.specs.ListViews.{Listing, types_in}
+use Rattle.wasm_validator_type_list.specs.ListViews.{Listing}
 use Rattle.wasm_validator_type_list.specs.ListViews as lists
 use Rattle.wasm_validator_type_list.proofs.DefTypes.{length-def_types}
 use Rattle.wasm_validator_sections.specs.WasmValidatorCore.OpenLists.{AreIdsOf}

@@ -9,7 +9,7 @@ use Rattle.wasm_spec.specs.Framing as parts
 use Rattle.wasm_spec.specs.Framing.{Piece, Version, Custom, Counted, Start, DataCount, CodeStart, CodeEntry, Unknown, magic, u16_at, section_at, piece_of, number_of, agrees}
 use Rattle.wasm_spec_rules.specs.FeatureFlags.{features_of}
 use Rattle.wasm_parser.specs.Machine as parser
-use Rattle.wasm_parser.specs.Machine.{may_follow, State, at_header, at_sections, version_of, numbers_of, header_of, entry_of, opened, behind, contents_of, alone_of, ending_of, part_of, next_at, next_of}
+use Rattle.wasm_parser.specs.Machine.{may_follow, State, at_header, at_sections, version_of, numbers_of, header_of, entry_of, opened, behind, contents_of, alone_of, part_of, next_at, next_of}
 use Rattle.wasm_parser.proofs.Steps.{then_some, map_some, gives, guarded, chosen, alone_is, which}
 use Rattle.wasm_validator_sections.specs.WasmValidatorReferences.References.{section_names}
 use Rattle.wasm_validator_types.specs.Spaces.{Spaces, no_spaces}

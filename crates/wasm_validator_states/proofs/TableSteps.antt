@@ -5,9 +5,9 @@ use Rattle.std.proofs.lemmas.Bool.{eqb-true, eq-eqb, ne_eqb, not-true}
 use Rattle.std.proofs.lemmas.Option.{same_Some}
 use Rattle.wasm_spec_rules.proofs.Tests.{truth, when, unless, guarded, then_some}
 use Rattle.wasm_spec.specs.Framing as parts
-use Rattle.wasm_spec.specs.Framing.{Piece, Version, Custom, Counted, Start, DataCount, CodeStart, CodeEntry, Unknown}
+use Rattle.wasm_spec.specs.Framing.{Version, Custom, Counted, Start, DataCount, CodeStart, CodeEntry, Unknown}
 use Rattle.wasm_spec_rules.specs.StateTable as table
-use Rattle.wasm_spec_rules.specs.StateTable.{Phase, Call, section, barred_section, data_section, code_start, accepted_to, refused_to}
+use Rattle.wasm_spec_rules.specs.StateTable.{section, barred_section, data_section, code_start, accepted_to, refused_to}
 use Rattle.wasm_validator_sections.specs.Bodies.{expected_bodies}
 use Rattle.wasm_spec_rules.specs.FeatureFlags.{features_of}
 use Rattle.wasm_readers_errors.specs.WasmReadersFeatures.declared.features.WasmFeatures.{WasmFeatures}

@@ -1,12 +1,11 @@
 -- A module that is refused so that the validator may be reset, and that didn't come to its end, leaves the validator where it stood.
-use Rattle.std.proofs.Common.{◌≡◌, refl, sym, ap, subst, ◌∙◌, ◌⊎◌, inl, inr, ℕ, Bool, true, false, cond, eqb, leb, ◌&&◌, ◌||◌, List, [], ◌∷◌, length, Option, Some, None, true≢false}
+use Rattle.std.proofs.Common.{◌≡◌, refl, sym, ap, subst, ◌∙◌, inl, inr, ℕ, Bool, true, false, cond, eqb, leb, ◌&&◌, ◌||◌, List, [], ◌∷◌, length, Option, Some, None, true≢false}
 use Rattle.std.specs.Option.{option_and_then}
 use Rattle.std.specs.declared.result.Result.{Result}
 use Rattle.std.specs.declared.result.Result.TheVariants.{Ok, Err}
 use Rattle.std.proofs.lemmas.Option.{same_Some, none-some}
 use Rattle.wasm_spec.specs.Framing as parts
 use Rattle.wasm_spec.specs.Framing.{Piece, Version, Custom, Counted, Start, DataCount, CodeStart, CodeEntry, Unknown}
-use Rattle.wasm_readers_errors.specs.WasmReadersFeatures.declared.features.WasmFeatures.{WasmFeatures}
 use Rattle.wasm_readers_errors.specs.declared.error.Refusal.{Refusal}
 use Rattle.wasm_validator_types.specs.declared.shown.Types as shown
 use Rattle.wasm_validator_sections.specs.WasmValidatorCore.declared.error.Error.{Error}
@@ -22,8 +21,8 @@ use Rattle.wasm_validator_types.specs.Spaces.{Spaces}
 use Rattle.wasm_validator_states.specs.ValidatorStages.{within, within_all, HasNotEnded}
 use Rattle.wasm_validator_states.specs.States.{begun, code_started, body_taken, module_ended}
 use Rattle.wasm_validator_states.specs.ValidatorStages.{Stage, unparsed, in_module, in_code, ended, failed, Standing, can_reset_at, may_reset, refused_at, read_refused_at, body_refused_at, ended_at, at_stage, IsEnded}
-use Rattle.wasm_validator_states.specs.States.{after_piece, is_barred, section_refused_at, left_by}
-use Rattle.wasm_validator_states.specs.Payloads.{after_all, IsLeft, IsOutOfMemory, HasNoMemory}
+use Rattle.wasm_validator_states.specs.States.{after_piece, is_barred, left_by}
+use Rattle.wasm_validator_states.specs.Payloads.{after_all, IsLeft, IsOutOfMemory}
 use Rattle.wasm_validator_states.specs.Verdict.{DecidesModule, StopsModule}
 
 -- no header has been read

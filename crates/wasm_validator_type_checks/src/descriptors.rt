@@ -1,8 +1,7 @@
 //! Descriptor clauses.
 
-ghost use Rattle.std.specs.Prelude.{◌≡◌, ◌<◌, length, is_ok, IfErr, IfSome};
+ghost use Rattle.std.specs.Prelude.{◌≡◌, ◌<◌, length, is_ok, IfErr};
 ghost use Rattle.std.specs.Bool.{Decides};
-ghost use Rattle.wasm_spec.specs.SupertypeOrder.{supertype_of};
 ghost use Rattle.wasm_spec.specs.GroupRules.{is_struct};
 ghost use Rattle.wasm_validator_resources.specs.WasmReadersErrors.Refusals.{plain, refused};
 ghost use Rattle.wasm_validator_resources.specs.WasmSpecRules.FeatureFlags.{features_of};

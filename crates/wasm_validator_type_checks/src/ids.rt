@@ -8,7 +8,7 @@ ghost use Rattle.wasm_readers_types.specs.declared.types.SubType.{SubType};
 ghost use Rattle.wasm_validator_type_list.specs.GroupOrder.{AreListable};
 ghost use Rattle.wasm_validator_type_list.specs.ListViews.{types_in};
 ghost use Rattle.wasm_validator_type_list.specs.DeclarationsById.{declares};
-ghost use Rattle.wasm_validator_type_list.specs.GroupTypes.{leads_in, IsKnownIn};
+ghost use Rattle.wasm_validator_type_list.specs.GroupTypes.{IsKnownIn};
 ghost use Rattle.wasm_validator_type_checks.specs.TypesById.{IsListed, numbered, IsIn, leads_packed};
 
 use std::alloc::Allocator;

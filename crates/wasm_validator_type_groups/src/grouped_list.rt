@@ -1,7 +1,7 @@
 //! Groups in one flat list: all items one behind another, the ids of each group's items, and the
 //! group of each item. Places count items from 0, over all groups.
 
-ghost use Rattle.std.specs.Prelude.{◌≡◌, ◌+◌, ◌<◌, ◌^◌, ◌++◌, ◌∷◌, [], ℕ, length, replicate, slice_index_or, IfOk, IfSome, OnOk, OnErr, IsSome, ◌↔◌};
+ghost use Rattle.std.specs.Prelude.{◌≡◌, ◌+◌, ◌<◌, ◌^◌, ◌++◌, ◌∷◌, [], length, replicate, slice_index_or, IfOk, IfSome, OnOk, OnErr, IsSome, ◌↔◌};
 ghost use Rattle.wasm_validator_type_groups.specs.Groups.{all_in, first_of, IsInGroup};
 ghost use Rattle.wasm_validator_type_groups.specs.Spans.{span, spans_of};
 

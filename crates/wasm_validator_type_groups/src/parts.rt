@@ -3,7 +3,7 @@
 //! about log n runs. A look-up searches the runs, and then the parts of one. Parts and runs are
 //! shared by `Rc`, and joining copies pointers, never items.
 
-ghost use Rattle.std.specs.Prelude.{◌≡◌, ◌<◌, ◌≤◌, ◌+◌, ◌-◌, ◌^◌, ◌++◌, ◌∷◌, [], ℕ, List, length, map, slice_index_or, take, IfOk, IsTrue, OnOk, OnErr};
+ghost use Rattle.std.specs.Prelude.{◌≡◌, ◌<◌, ◌≤◌, ◌+◌, ◌-◌, ◌^◌, ◌++◌, [], ℕ, List, length, map, slice_index_or, take, IfOk, IsTrue, OnOk, OnErr};
 ghost use Rattle.wasm_validator_type_groups.specs.Parts.{seen, run_parts, run_seen, all_items, StandFrom, PartsStand, IsRun, RunsStand, AreFew, LastTwoDiffer};
 
 use std::alloc::{AllocError, Allocator};

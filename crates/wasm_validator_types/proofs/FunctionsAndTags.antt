@@ -1,5 +1,5 @@
 -- The types of functions and tags that are imported or exported, as the lists of these grow.
-use Rattle.std.proofs.Common.{◌≡◌, sym, subst, ap, ◌∙◌, ℕ, ◌<◌, Bool, true, false, ◌&&◌, if◌then◌else◌, List, [], ◌∷◌, ◌++◌, map, refl}
+use Rattle.std.proofs.Common.{◌≡◌, sym, subst, ap, ◌∙◌, ℕ, ◌<◌, Bool, true, false, if◌then◌else◌, List, [], ◌∷◌, ◌++◌, map}
 use Rattle.std.specs.List.{All}
 use Rattle.std.specs.Prelude.{OnOk, OnErr, IfSome, Option, None, Some}
 use Rattle.std.specs.declared.result.Result.{Result}
@@ -13,7 +13,7 @@ use Rattle.wasm_readers.specs.WasmReadersTypes.declared.externs.EntityType.{Enti
 use Rattle.wasm_validator_types.specs.Entities.{Entity, entity_of, HasIdBelow, IsAmong}
 use Rattle.wasm_validator_types.specs.Rows.{import_rows, all_imports}
 use Rattle.wasm_validator_types.specs.Spaces.{is_pair, with_import}
-use Rattle.wasm_validator_types.specs.SpacesSeen.{numbers, shown_import, shown_export, AreImportsAmong, AreExportsAmong, AddsToPair}
+use Rattle.wasm_validator_types.specs.SpacesSeen.{numbers, shown_import, AreImportsAmong, AreExportsAmong, AddsToPair}
 
 -- what holds of some elements' front holds of the front
 all_front : {X : Type 0} (P : X → Type 0) (xs ys : List X) → All P (xs ++ ys) → All P xs

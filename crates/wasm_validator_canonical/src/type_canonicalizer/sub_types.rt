@@ -1,10 +1,10 @@
 //! The sub types of a group: what a type extends and what it describes must come before it, and all
 //! else is written as any reference is.
 
-ghost use Rattle.std.specs.Prelude.{◌≡◌, ◌+◌, ◌≤◌, ◌<◌, ◌&&◌, ◌++◌, map, length, is_ok, IfOk, IfErr, option_map};
+ghost use Rattle.std.specs.Prelude.{◌≡◌, ◌+◌, ◌≤◌, ◌<◌, map, length, is_ok, IfOk, IfErr, option_map};
 ghost use Rattle.std.specs.List.{list_all};
 ghost use Rattle.wasm_spec.specs.Syntax.{map_comp, map_sub};
-ghost use Rattle.wasm_spec.specs.References.{refs_option, refs_comp};
+ghost use Rattle.wasm_spec.specs.References.{refs_option};
 ghost use Rattle.wasm_readers_types.specs.WasmReadersValues.SeenValues.{index_of};
 ghost use Rattle.wasm_readers_types.specs.SeenTypes.{comp_of, sub_of};
 ghost use Rattle.wasm_validator_canonical.specs.Answers.{Says, IsAt};

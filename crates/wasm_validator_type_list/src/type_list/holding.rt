@@ -1,7 +1,7 @@
 //! Which types name ids of the list only, and which groups may be added: what other methods ask of
 //! what they are given.
 
-ghost use Rattle.std.specs.Prelude.{◌≡◌, ◌<◌, ◌∷◌, [], length};
+ghost use Rattle.std.specs.Prelude.{◌<◌, ◌∷◌, [], length};
 ghost use Rattle.std.specs.Bool.{Decides};
 ghost use Rattle.std.specs.List.{All};
 ghost use Rattle.wasm_readers_types.specs.Entities.{entity_of};

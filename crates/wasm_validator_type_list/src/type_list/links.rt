@@ -1,7 +1,7 @@
 //! What may be linked to an import (Core Specification 3.0, Validation, Matching, Table Types, Global
 //! Types, Tag Types and External Types).
 
-ghost use Rattle.std.specs.Prelude.{◌≡◌, length};
+ghost use Rattle.std.specs.Prelude.{length};
 ghost use Rattle.std.specs.Bool.{Decides};
 ghost use Rattle.wasm_readers_errors.specs.WasmSpec.LinkMatching.{MatchesExtern, MatchesTable, MatchesGlobal};
 ghost use Rattle.wasm_readers_types.specs.Entities.{entity_of};

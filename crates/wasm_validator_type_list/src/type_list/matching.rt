@@ -5,9 +5,9 @@
 ghost use Rattle.std.specs.Prelude.{◌≡◌, ◌<◌, length};
 ghost use Rattle.std.specs.Bool.{Decides};
 ghost use Rattle.std.specs.List.{All, AllZip};
-ghost use Rattle.wasm_readers_errors.specs.WasmSpec.References.{refs_heap, refs_val, refs_storage, refs_field, refs_comp, refs_sub};
+ghost use Rattle.wasm_readers_errors.specs.WasmSpec.References.{refs_heap, refs_val, refs_storage, refs_field, refs_comp};
 ghost use Rattle.wasm_readers_types.specs.WasmReadersValues.SeenValues.{heap_of, ref_of, val_of, storage_of, field_of};
-ghost use Rattle.wasm_readers_types.specs.SeenTypes.{comp_of, sub_of};
+ghost use Rattle.wasm_readers_types.specs.SeenTypes.{comp_of};
 ghost use Rattle.wasm_validator_type_list.specs.ListViews.{types_in};
 ghost use Rattle.wasm_validator_type_list.specs.DeclarationsById.{declares};
 ghost use Rattle.wasm_validator_type_list.specs.Subtyping.{IsHeapOver, heap_by_ids};

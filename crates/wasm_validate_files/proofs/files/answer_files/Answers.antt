@@ -1,6 +1,6 @@
 use Rattle.std.proofs.Common.{◌≡◌, ℕ, List, [], map, ap, subst, ◌∙◌, Bor}
 use Rattle.wasm_spec_rules.specs.FeatureFlags.{features_of}
-use Rattle.wasm_validator.specs.ValidatorStages.{Standing, fresh}
+use Rattle.wasm_validator.specs.ValidatorStages.{Standing}
 use Rattle.wasm_validator.specs.Headline.{Headline, types_held}
 use Rattle.wasm_validate_files.specs.Files.{bytes_held}
 use Rattle.wasm_validate_files.proofs.files.answer_files.Goals as goal

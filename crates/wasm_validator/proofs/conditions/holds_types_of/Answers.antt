@@ -1,4 +1,4 @@
-use Rattle.std.proofs.Common.{◌≡◌, ◌∙◌, ap}
+use Rattle.std.proofs.Common.{◌∙◌, ap}
 use Rattle.wasm_validator_modules.specs.WasmValidatorTypes.Spaces.{Spaces}
 use Rattle.wasm_validator.proofs.ModuleIds.{are_held}
 use Rattle.wasm_validator.proofs.conditions.holds_types_of.Goals as goal

@@ -1,5 +1,4 @@
 use Rattle.std.proofs.Common.{◌≡◌, false, true}
-use Rattle.wasm_validator_resources.specs.WasmSpecRules.FeatureFlags.{features_of}
 use Rattle.wasm_operators.specs.Maps.{map_instruction}
 use Rattle.wasm_operators.specs.SeenOperators.{operator_of}
 use Rattle.wasm_typing_validator.specs.WasmSpecSteps.ConstantExpressions.{is_constant}

@@ -1,2 +1,1 @@
-use Rattle.wasm_validator_core_resources.proofs.SharedTypes.{kept_twice}
 use Rattle.wasm_validator_core_resources.proofs.types_by_ids.TypesByIds.update.Goals as goal

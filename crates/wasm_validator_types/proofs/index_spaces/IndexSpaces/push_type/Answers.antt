@@ -1,4 +1,4 @@
-use Rattle.std.proofs.Common.{arith, ap, sym, subst}
+use Rattle.std.proofs.Common.{arith, sym, subst}
 use Rattle.std.proofs.lemmas.Grind.{common_steps}
 use Rattle.wasm_validator_types.specs.SpacesSeen.{numbers, shown_import, shown_export, AreImportsAmong, AreExportsAmong}
 use Rattle.wasm_validator_types.proofs.FunctionsAndTags.{imports_pushed, exports_pushed}
