@@ -15,7 +15,6 @@ TESTS = ["crates/test_*/src/*.rt", "tests/**/*.rt*"]
 # What no call of the public ones can make the crates print, and why.
 NEVER = {
     "invalid integer": "each integer prints its kind and its fault",
-    "invalid operator": "each rule that isn't named there prints its index",
     "atomic access": "each number of an atomic access has a name",
     "control frames remain at end of function body or expression": "reading ends first, where an operator is missing",
 }

@@ -206,33 +206,7 @@ pub enum OperatorRule {
     SwitchParams,
 }
 
-/// The items of a module, and of a function, that an operator names by an index.
-#[derive(Clone, Copy)]
-struct Indexed<'a> {
-    /// What it is.
-    what: &'a str,
-    /// What its index is called.
-    index: &'a str,
-}
-
 impl OperatorRule {
-    /// What isn't there, where the rule is that it is.
-    fn unknown<'a>(self) -> Option<Indexed<'a>> {
-        let (what, index) = match self {
-            OperatorRule::UnknownLocal => ("local", "local"),
-            OperatorRule::UnknownGlobal => ("global", "global"),
-            OperatorRule::UnknownFunction => ("function", "function"),
-            OperatorRule::UnknownType => ("type", "type"),
-            OperatorRule::UnknownTable => ("table", "table"),
-            OperatorRule::UnknownMemory => ("memory", "memory"),
-            OperatorRule::UnknownTag => ("tag", "tag"),
-            OperatorRule::UnknownElements => ("elem segment", "segment"),
-            OperatorRule::UnknownData => ("data segment", "segment"),
-            _ => return None,
-        };
-        Some(Indexed { what, index })
-    }
-
     /// The proposal that would lift a refusal by this rule, where one would.
     pub fn missing(self) -> Option<WasmFeatures>
         ensures { result ≡ lifting self }
@@ -260,7 +234,22 @@ impl OperatorRule {
         }
     }
 
-    /// What is said of a rule that has no index, of operands, frames and names.
+    /// What the index of an item is called, where the rule is that the item is there.
+    fn index<'a>(self) -> Option<&'a str> {
+        match self {
+            OperatorRule::UnknownLocal => Some("local"),
+            OperatorRule::UnknownGlobal => Some("global"),
+            OperatorRule::UnknownFunction => Some("function"),
+            OperatorRule::UnknownType => Some("type"),
+            OperatorRule::UnknownTable => Some("table"),
+            OperatorRule::UnknownMemory => Some("memory"),
+            OperatorRule::UnknownTag => Some("tag"),
+            OperatorRule::UnknownElements | OperatorRule::UnknownData => Some("segment"),
+            _ => None,
+        }
+    }
+
+    /// What is said of each rule, without the number that belongs to it.
     fn text<'a>(self) -> &'a str {
         match self {
             OperatorRule::Operand => "type mismatch: an operand of another type is expected",
@@ -279,22 +268,19 @@ impl OperatorRule {
             OperatorRule::ElseWithoutIf => "else found outside of an `if` block",
             OperatorRule::MissingElse =>
                 "type mismatch: an `if` without `else` must give what it takes",
+            OperatorRule::UnknownLocal => "unknown local",
             OperatorRule::UnsetLocal => "uninitialized local",
+            OperatorRule::UnknownGlobal => "unknown global",
             OperatorRule::ImmutableGlobal =>
                 "global is immutable: cannot modify it with `global.set`",
             OperatorRule::UnknownLabel => "unknown label: branch depth too large",
             OperatorRule::LabelTypes => "type mismatch: label has other types",
+            OperatorRule::UnknownFunction => "unknown function",
             OperatorRule::UndeclaredFunction => "undeclared function reference",
+            OperatorRule::UnknownType => "unknown type",
             OperatorRule::NotAFunction => "expected func type",
             OperatorRule::NotAStruct => "expected struct type",
             OperatorRule::NotAnArray => "expected array type",
-            _ => self.text_of_types(),
-        }
-    }
-
-    /// What is said of structures, arrays, tables, memories and tags.
-    fn text_of_types<'a>(self) -> &'a str {
-        match self {
             OperatorRule::UnknownField => "unknown field: field index out of bounds",
             OperatorRule::ImmutableField =>
                 "invalid struct modification: struct field is immutable",
@@ -309,15 +295,17 @@ impl OperatorRule {
             OperatorRule::NotNumeric =>
                 "type mismatch: arrays from data have numeric or vector elements",
             OperatorRule::ElementTypes => "type mismatch: elements of another type are expected",
+            OperatorRule::UnknownTable => "unknown table",
             OperatorRule::TableTypes => "type mismatch: table has another element type",
+            OperatorRule::UnknownMemory => "unknown memory",
             OperatorRule::Alignment => "alignment must not be larger than natural",
             OperatorRule::Offset => "offset out of range: must be <= 2**32",
-            OperatorRule::Lane => "SIMD index out of bounds",
-            OperatorRule::AtomicAlignment =>
-                "atomic instructions must always specify maximum alignment",
+            OperatorRule::UnknownTag => "unknown tag",
             OperatorRule::TagResults => "invalid exception type: non-empty tag result type",
             OperatorRule::CatchTypes =>
                 "type mismatch: catch clause sends other types than its label has",
+            OperatorRule::UnknownElements => "unknown elem segment",
+            OperatorRule::UnknownData => "unknown data segment",
             OperatorRule::MissingDataCount => "data count section required",
             OperatorRule::CastTypes | OperatorRule::CastTypesOfHierarchy =>
                 "type mismatch: cast to a type that is not a subtype",
@@ -325,13 +313,6 @@ impl OperatorRule {
                 "type mismatch: callee returns other types than the function",
             OperatorRule::Shared => "shared functions cannot access what is not shared",
             OperatorRule::ContinuationTypes => "cannot test or cast continuation references",
-            _ => self.text_of_bodies(),
-        }
-    }
-
-    /// What is said of constant expressions, bodies and features.
-    fn text_of_bodies<'a>(self) -> &'a str {
-        match self {
             OperatorRule::NotConstant => "constant expression required: non-constant operator",
             OperatorRule::MutableGlobal =>
                 "constant expression required: global.get of mutable global",
@@ -352,22 +333,24 @@ impl OperatorRule {
             OperatorRule::SharedEverything => "shared-everything-threads support is not enabled",
             OperatorRule::CustomDescriptors => "custom descriptors support is not enabled",
             OperatorRule::ReferenceProposal(rule) => rule.text(),
+            OperatorRule::NewWithoutDescriptor =>
+                "type with descriptor requires descriptor allocation: `struct.new`",
+            OperatorRule::NewDefaultWithoutDescriptor =>
+                "type with descriptor requires descriptor allocation: `struct.new_default`",
+            OperatorRule::NewDescOfUndescribed => "invalid `struct.new_desc`",
+            OperatorRule::NewDefaultDescOfUndescribed => "invalid `struct.new_default_desc`",
             OperatorRule::VectorOperators => "vector operators are not served",
             OperatorRule::AtomicOperators => "atomic operators are not served",
             OperatorRule::Threads => "threads support is not enabled",
+            OperatorRule::Lane => "SIMD index out of bounds",
+            OperatorRule::AtomicAlignment =>
+                "atomic instructions must always specify maximum alignment",
+            OperatorRule::LegacyExceptions => "illegal opcode",
             OperatorRule::CatchOutsideTry => "catch found outside of a `try` block",
             OperatorRule::CatchAllOutsideTry => "catch_all found outside of a `try` block",
             OperatorRule::DelegateOutsideTry => "delegate found outside of a `try` block",
             OperatorRule::RethrowLabel => "invalid rethrow label: target was not a `catch` block",
             OperatorRule::CatchCount => "catches size is out of bounds",
-            OperatorRule::LegacyExceptions => "illegal opcode",
-            _ => self.text_of_proposals(),
-        }
-    }
-
-    /// What is said of operators of proposals beyond the standard.
-    fn text_of_proposals<'a>(self) -> &'a str {
-        match self {
             OperatorRule::Opcode | OperatorRule::OpcodeBehind(_) => "illegal opcode",
             OperatorRule::AtomicGlobal => "global is immutable",
             OperatorRule::AtomicType => "invalid type",
@@ -382,23 +365,15 @@ impl OperatorRule {
             OperatorRule::HandleTypes => "type mismatch between tag type and label type",
             OperatorRule::SwitchTag => "type mismatch: switch tag does not match continuation",
             OperatorRule::SwitchParams => "type mismatch: non-empty tag parameter type",
-            _ => "invalid operator",
         }
     }
 
     /// Writes what is said where the rule is broken, with the number that belongs to it.
     pub fn write<W: fmt::Write>(self, f: &mut fmt::Formatter<W>, number: u32) -> fmt::Result {
-        match self.unknown() {
-            Some(Indexed { what, index }) => {
-                write!(f, "unknown {what} {number}: {index} index out of bounds")
-            }
-            None => self.write_text(f, number),
-        }
-    }
-
-    /// The same of a rule that isn't that an item is there.
-    fn write_text<W: fmt::Write>(self, f: &mut fmt::Formatter<W>, number: u32) -> fmt::Result {
         let text = self.text();
+        if let Some(index) = self.index() {
+            return write!(f, "{text} {number}: {index} index out of bounds");
+        }
         match self {
             OperatorRule::UnsetLocal => write!(f, "{text}: {number}"),
             OperatorRule::LegacyExceptions | OperatorRule::Opcode => {
@@ -409,40 +384,17 @@ impl OperatorRule {
             OperatorRule::NotAFunction | OperatorRule::NotAStruct | OperatorRule::NotAnArray => {
                 write!(f, "{text} at index {number}")
             }
-            OperatorRule::NewWithoutDescriptor => write_undescribed(f, "struct.new", number),
-            OperatorRule::NewDefaultWithoutDescriptor => {
-                write_undescribed(f, "struct.new_default", number)
+            OperatorRule::NewWithoutDescriptor | OperatorRule::NewDefaultWithoutDescriptor => {
+                write!(f, "{text} with type {number}")
             }
-            OperatorRule::NewDescOfUndescribed => write_described(f, "struct.new_desc", number),
-            OperatorRule::NewDefaultDescOfUndescribed => {
-                write_described(f, "struct.new_default_desc", number)
+            OperatorRule::NewDescOfUndescribed | OperatorRule::NewDefaultDescOfUndescribed => {
+                write!(f, "{text}: type {number} is not described")
             }
             OperatorRule::AtomicGlobal => write_atomic_global(f, number),
             OperatorRule::AtomicType => write_atomic_type(f, number),
             _ => f.write_str(text),
         }
     }
-}
-
-/// What is said of an operator that takes no descriptor, where its type has one.
-fn write_undescribed<W: fmt::Write>(
-    f: &mut fmt::Formatter<W>,
-    operator: &str,
-    index: u32,
-) -> fmt::Result {
-    write!(
-        f,
-        "type with descriptor requires descriptor allocation: `{operator}` with type {index}"
-    )
-}
-
-/// What is said of an operator that takes a descriptor, where its type has none.
-fn write_described<W: fmt::Write>(
-    f: &mut fmt::Formatter<W>,
-    operator: &str,
-    index: u32,
-) -> fmt::Result {
-    write!(f, "invalid `{operator}`: type {index} is not described")
 }
 
 /// The operators of constant expressions that need a proposal (Core Specification 3.0, Validation,
