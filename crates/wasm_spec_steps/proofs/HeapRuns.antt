@@ -1,6 +1,6 @@
 -- The bodies of memory, table, reference and aggregate instructions, run.
 use Rattle.std.proofs.Common.{refl}
-use Rattle.wasm_spec_steps.specs.HeapExamples.{Memories, NoMemories, Tables, NoTables, References, NoReferences, Casts, NoCasts, Conversions, NoConversions, Structures, NoStructures, Arrays, NoArrays, Descriptors, NoDescriptors, MemoriesNeedFeatures, ReferencesNeedFeatures, AggregatesNeedFeatures}
+use Rattle.wasm_spec_steps.specs.HeapExamples.{Memories, NoMemories, Tables, NoTables, References, NoReferences, Casts, NoCasts, Conversions, NoConversions, Structures, NoStructures, Arrays, NoArrays, Descriptors, NoDescriptors, Continuations, NoContinuations, MemoriesNeedFeatures, ReferencesNeedFeatures, AggregatesNeedFeatures}
 
 pub memories : Memories
 memories = refl
@@ -50,6 +50,12 @@ descriptors = refl
 pub no_descriptors : NoDescriptors
 no_descriptors = refl
 
+pub continuations : Continuations
+continuations = refl
+
+pub no_continuations : NoContinuations
+no_continuations = refl
+
 pub memories_need_features : MemoriesNeedFeatures
 memories_need_features = refl
 
@@ -59,4 +65,4 @@ references_need_features = refl
 pub aggregates_need_features : AggregatesNeedFeatures
 aggregates_need_features = refl
 
-pub ruleset heap_runs = (memories, no_memories, tables, no_tables, references, no_references, casts, no_casts, conversions, no_conversions, structures, no_structures, arrays, no_arrays, descriptors, no_descriptors, memories_need_features, references_need_features, aggregates_need_features)
+pub ruleset heap_runs = (memories, no_memories, tables, no_tables, references, no_references, casts, no_casts, conversions, no_conversions, structures, no_structures, arrays, no_arrays, descriptors, no_descriptors, continuations, no_continuations, memories_need_features, references_need_features, aggregates_need_features)

@@ -7,7 +7,9 @@ use Rattle.wasm_spec_rules.specs.WasmSpec.TypeExamples.{features}
 use Rattle.wasm_operators.specs.Control.{empty_block, value_block}
 use Rattle.wasm_operators.specs.References.{ref_is_null, ref_eq, ref_as_non_null, ref_func, br_on_null, br_on_non_null, ref_test, ref_cast, br_on_cast, br_on_cast_fail, ref_cast_desc_eq}
 use Rattle.wasm_operators.specs.References as references
-use Rattle.wasm_operators.specs.Instructions.{Instruction, variable, table, access, memory, constant, reference, cast, conversion, structure, array}
+use Rattle.wasm_operators.specs.Continuations.{cont_new, cont_bind, suspend, resume, switch}
+use Rattle.wasm_operators.specs.WasmOperatorsProposals.declared.continuations.Handle.TheVariants.{OnLabel, OnSwitch}
+use Rattle.wasm_operators.specs.Instructions.{Instruction, variable, table, access, memory, constant, reference, cast, conversion, structure, array, continuation}
 use Rattle.wasm_operators.specs.WasmOperatorsPlain.declared.variables.VariableOperator.TheVariants.{LocalGet, LocalSet}
 use Rattle.wasm_operators.specs.WasmOperatorsPlain.declared.tables.TableOperator.TheVariants.{TableGet, TableSet, TableInit, ElemDrop, TableCopy, TableGrow, TableSize, TableFill}
 use Rattle.wasm_operators.specs.WasmOperatorsPlain.declared.memories.MemoryOperator.{MemoryOperator}
@@ -271,6 +273,31 @@ every = features true
 -- accepted with every feature, and refused with these
 abbrev pub needs : Features → List (Instruction ℕ) → Bool
 needs fewer ops = body every 0 ops && not (body fewer 0 ops)
+
+-- A continuation of type 13 takes nothing and gives nothing. A handler for switches wants a tag without parameters, whose results are what the
+-- continuation gives.
+abbrev pub Continuations : Type 0
+Continuations =
+    all_pass (
+    described (reference (ref_func 0) ∷ continuation (cont_new 13) ∷ dropped ∷ []) ∷
+    described (null (concrete 13) ∷ continuation (cont_bind 13 13) ∷ dropped ∷ []) ∷
+    described (an_i32 ∷ continuation (suspend 1) ∷ []) ∷
+    described (null (concrete 13) ∷ continuation (resume 13 (OnSwitch 0 ∷ [])) ∷ []) ∷
+    described (in_block (value_block (ref_null (concrete 13))) ∷ null (concrete 13) ∷ continuation (resume 13 (OnLabel 0 0 ∷ [])) ∷ null (concrete 13) ∷ an_end ∷ dropped ∷ []) ∷
+    []) ≡ true
+
+abbrev pub NoContinuations : Type 0
+NoContinuations =
+    none_pass (
+    described (reference (ref_func 3) ∷ continuation (cont_new 13) ∷ dropped ∷ []) ∷
+    described (null (concrete 13) ∷ continuation (cont_bind 13 0) ∷ dropped ∷ []) ∷
+    described (continuation (suspend 1) ∷ []) ∷
+    described (null (concrete 13) ∷ continuation (resume 13 (OnSwitch 1 ∷ [])) ∷ []) ∷
+    described (null (concrete 13) ∷ continuation (resume 13 (OnSwitch 2 ∷ [])) ∷ []) ∷
+    described (in_block (value_block (ref_null (concrete 13))) ∷ null (concrete 13) ∷ continuation (resume 13 (OnLabel 1 0 ∷ [])) ∷ null (concrete 13) ∷ an_end ∷ dropped ∷ []) ∷
+    described (in_block (value_block (ref_null (concrete 13))) ∷ null (concrete 13) ∷ continuation (resume 13 (OnLabel 2 0 ∷ [])) ∷ null (concrete 13) ∷ an_end ∷ dropped ∷ []) ∷
+    described (null (concrete 13) ∷ continuation (switch 13 0) ∷ []) ∷
+    []) ≡ true
 
 -- features: of vectors, floating-point numbers and bulk instructions
 abbrev pub MemoriesNeedFeatures : Type 0

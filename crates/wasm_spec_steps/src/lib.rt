@@ -8,7 +8,7 @@ ghost use Rattle.wasm_spec_steps.specs.ServedInstructions.{UnservedTakeNone};
 ghost use Rattle.wasm_spec_steps.specs.LegacyExamples.{Tries, NoTries, TriesNeedFeatures};
 ghost use Rattle.wasm_spec_steps.specs.StackLaws.{ListsAreTakenInTurn, TakingKeepsFrames, TypesAreTakenInTurn, UnreachedCodeTakesAnything, EqualTypesMatch, EqualTypesMatchInContexts, ActionsAreRunInTurn};
 ghost use Rattle.wasm_spec_steps.specs.ControlExamples.{Blocks, NoBlocks, Branches, NoBranches, Calls, NoCalls, Exceptions, NoExceptions, Parametrics, NoParametrics, Variables, NoVariables, ControlNeedsFeatures, Constants, NoConstants, ConstantInstructions, NoConstantInstructions};
-ghost use Rattle.wasm_spec_steps.specs.HeapExamples.{Memories, NoMemories, Tables, NoTables, References, NoReferences, Casts, NoCasts, Conversions, NoConversions, Structures, NoStructures, Arrays, NoArrays, Descriptors, NoDescriptors, MemoriesNeedFeatures, ReferencesNeedFeatures, AggregatesNeedFeatures};
+ghost use Rattle.wasm_spec_steps.specs.HeapExamples.{Memories, NoMemories, Tables, NoTables, References, NoReferences, Casts, NoCasts, Conversions, NoConversions, Structures, NoStructures, Arrays, NoArrays, Descriptors, NoDescriptors, Continuations, NoContinuations, MemoriesNeedFeatures, ReferencesNeedFeatures, AggregatesNeedFeatures};
 ghost use Rattle.wasm_spec_steps.specs.FormExamples.{Vectors, NoVectors, Atomics, NoAtomics, FormsNeedFeatures};
 ghost use Rattle.wasm_spec_steps.specs.SharedExamples.{ReachesGlobalsAndTables, ReachesFunctions, ReachesStructures, ReachesArrays, ReachesTheRest};
 
@@ -89,6 +89,8 @@ pub fn heap_examples()
     ensures no_arrays { NoArrays }
     ensures descriptors { Descriptors }
     ensures no_descriptors { NoDescriptors }
+    ensures continuations { Continuations }
+    ensures no_continuations { NoContinuations }
     ensures memories_need_features { MemoriesNeedFeatures }
     ensures references_need_features { ReferencesNeedFeatures }
     ensures aggregates_need_features { AggregatesNeedFeatures }
