@@ -1,5 +1,6 @@
 -- The rules of shapes, read for instructions on continuations.
-use Rattle.std.proofs.Common.{◌≡◌, refl, sym, ap, subst, ◌∙◌, ℕ, Bool, true, false, List, [], ◌∷◌, ◌++◌, Option, Some, None, option_map, slice_get}
+use Rattle.std.proofs.Common.{◌≡◌, refl, sym, ap, subst, ◌∙◌, ℕ, Bool, true, false, ◌==◌, List, [], ◌∷◌, ◌++◌, length, Option, Some, None, option_map, slice_get, arith}
+use Rattle.std.proofs.lemmas.Bool.Decides.{Decides-eqb}
 use Rattle.wasm_spec_steps.specs.WasmSpecRules.WasmSpec.Syntax.{exn_heap, abstract_heap, concrete, Val, Comp, func, array, struct, cont, reference}
 use Rattle.wasm_spec_steps.specs.WasmSpecRules.WasmSpec.MatchingTests.{World}
 use Rattle.wasm_spec_steps.specs.WasmSpecRules.Attempts.{◌>>=◌, passes, last_of, front_of}
@@ -9,22 +10,26 @@ use Rattle.wasm_operators.specs.WasmOperatorsProposals.declared.continuations.Ha
 use Rattle.wasm_operators.specs.WasmOperatorsProposals.declared.continuations.Handle.TheVariants as handle
 use Rattle.wasm_spec_steps.specs.Matching.{matches_vals}
 use Rattle.wasm_spec_steps.specs.Bodies.{Surroundings}
-use Rattle.wasm_spec_steps.specs.Actions.{of_tag}
+use Rattle.wasm_spec_steps.specs.Actions.{of_tag, reaches_type}
 use Rattle.wasm_spec_steps.specs.Shapes.{continuation_shape, gives_of, handle_checks}
-use Rattle.wasm_spec_steps.specs.Meanings.{ref_to, cont_of, referred, comp_at, signature_at, continuation_signature, continued_signature}
+use Rattle.wasm_spec_steps.specs.Meanings.{ref_to, cont_of, referred, comp_at, signature_at, continuation_signature, continued_signature, holds}
 use Rattle.wasm_spec_steps.specs.Meanings as meaning
 use Rattle.wasm_spec_instructions.specs.ValueTypes.{ValueType, val, vals, reference_at}
-use Rattle.wasm_spec_instructions.specs.Scopes.{Scope, types_in, AllHold}
+use Rattle.wasm_spec_instructions.specs.Scopes.{Scope, nowhere, types_in, AllHold}
 use Rattle.wasm_spec_instructions.specs.Rules.{Rule, plain_rule}
-use Rattle.wasm_spec_instructions.specs.ContinuationShapes.{MakesContinuation, Suspends, HandlesByLabel, HandlesSwitches, HandlesAll, Resumes, ResumesByException}
-use Rattle.wasm_spec_instructions.proofs.Attempts.{no, the_same, absent, bind-gives, bind-at, with_last, last-of_last, front-of_last}
+use Rattle.wasm_spec_instructions.specs.ContinuationShapes.{AreServed, MakesContinuation, Suspends, HandlesByLabel, HandlesSwitches, HandlesAll, IsContinuation, IsResumed, Resumes, ResumesByTag, ResumesByException}
+use Rattle.wasm_spec_instructions.proofs.Attempts.{no, the_same, absent, bind-gives, bind-at, passes-gives, with_last, last-of_last, front-of_last}
 use Rattle.wasm_spec_instructions.proofs.OperandFits.{vals-append, match-true, true-match}
 use Rattle.wasm_spec_instructions.proofs.Names.{as_written}
 use Rattle.wasm_spec_instructions.proofs.AttemptResults.{mapped, single, null_and, by_null_to}
 
+pub no_types : {R : Type 0} (W : World R) (vs : List (Val R)) → matches_vals W vs [] ≡ true → vs ≡ []
+no_types W [] e = refl
+no_types W (v ∷ vs) e = no e
+
 module _ {R : Type 0} (W : World R) (B : Surroundings R) (C : Scope R) where
   -- what a reference to continuations tells
-  abbrev signed : Option R → Option (Signature R)
+  abbrev pub signed : Option R → Option (Signature R)
   signed o = null_and [] o >>= continued_signature W B
 
   -- handlers: what the label of one takes, by the option that has it
@@ -37,7 +42,7 @@ module _ {R : Type 0} (W : World R) (B : Surroundings R) (C : Scope R) where
   abbrev Ends : List (Val R) → Option (List (Val R)) → Bool
   Ends ts o = passes (matches_vals W ts) (option_map (λ (s : Signature R). s.gives) (o >>= continued_signature W B))
 
-  last_refers :
+  pub last_refers :
       (ls : List (Val R)) (s : Signature R) → continued_signature W B ls ≡ Some s
       → (t : Val R) × (last_of ls ≡ Some t) × (continued_signature W B (t ∷ []) ≡ Some s)
   last_refers ls s e =
@@ -85,11 +90,7 @@ module _ {R : Type 0} (W : World R) (B : Surroundings R) (C : Scope R) where
       → passes (λ vs. matches_vals W vs []) (option_map (λ (s : Signature R). s.takes) p) ≡ true
       → passes (λ vs. matches_vals W vs ts) (option_map (λ (s : Signature R). s.gives) p) ≡ true → HandlesSwitches W B ts x
   by_switch x ts None d a b = no a
-  by_switch x ts (Some g) d a b = record { tag = g; tagged = d; takes = no_types g.takes a; gives = true-match W g.gives ts b }
-    where
-      no_types : (vs : List (Val R)) → matches_vals W vs [] ≡ true → vs ≡ []
-      no_types [] e = refl
-      no_types (v ∷ vs) e = no e
+  by_switch x ts (Some g) d a b = record { tag = g; tagged = d; takes = no_types W g.takes a; gives = true-match W g.gives ts b }
 
   pub handles :
       (n : ℕ) (hs : List Handle) (ts : List (Val R)) → types_in W B C.labels C.returns (gives_of n) ≡ Some ts → AllHold W B C (handle_checks n hs) → HandlesAll W B C ts hs
@@ -106,7 +107,7 @@ module _ {R : Type 0} (W : World R) (B : Surroundings R) (C : Scope R) where
   )
 
   -- and back
-  label_refers : (sent : List (Val R)) (last : Val R) → continued_signature W B (sent ++ last ∷ []) ≡ continued_signature W B (last ∷ [])
+  pub label_refers : (sent : List (Val R)) (last : Val R) → continued_signature W B (sent ++ last ∷ []) ≡ continued_signature W B (last ∷ [])
   label_refers sent last = ap (λ (o : Option (Val R)). (o >>= referred) >>= continuation_signature W B) (last-of_last sent last)
 
   label_checks :
@@ -152,6 +153,15 @@ module _ {R : Type 0} (W : World R) (B : Surroundings R) (C : Scope R) where
 
   told : (f : Signature R → List (Val R)) (o : Option R) (a : R) (g : Signature R) → o ≡ Some a → continuation_signature W B a ≡ Some g → option_map f (signed o) ≡ Some (f g)
   told f o a g e h = ap (λ (p : Option R). option_map f (signed p)) e ∙ ap (option_map f) h
+
+  -- the type of an index, by what is told of it
+  pub continuation_at :
+      (f : Signature R → List (Val R)) (x : ℕ) (ts : List (Val R)) → option_map f (signed (slice_get B.context.types x)) ≡ Some ts
+      → holds W B (nowhere W B) (reaches_type x) ≡ true → IsContinuation W B x
+  continuation_at f x ts e r = let k = tells f (slice_get B.context.types x) ts e in record { it = k.0; signature = k.1; reached = r; is = k.2; there = k.3 }
+
+  pub told_of : (f : Signature R → List (Val R)) (x : ℕ) (b : IsContinuation W B x) → option_map f (signed (slice_get B.context.types x)) ≡ Some (f b.signature)
+  told_of f x b = told f (slice_get B.context.types x) b.it b.signature b.is b.there
 
   -- making one
   pub makes_continuation : (x : ℕ) (ts us : List (ValueType R)) → Rule W B C (continuation_shape (continuations.cont_new x)) ts us → MakesContinuation W B x ts us
@@ -201,68 +211,101 @@ module _ {R : Type 0} (W : World R) (B : Surroundings R) (C : Scope R) where
       as_written W B C (continuation_shape (continuations.suspend x)) ts us (vals b.tag.takes) (vals b.tag.gives) b.takes b.gives
       (plain_rule (b.features.served, (b.features.on, tt)) (ap (option_map (λ (g : Signature R). g.takes)) b.there) (ap (option_map (λ (g : Signature R). g.gives)) b.there))
 
-  -- resuming
+  -- resuming: by what an instruction gives, and checks
+  resumed :
+      (x : ℕ) (hs : List Handle) (us : List (Val R)) → AreServed W B → holds W B (nowhere W B) (reaches_type x) ≡ true
+      → option_map (λ (s : Signature R). s.gives) (signed (slice_get B.context.types x)) ≡ Some us → AllHold W B C (handle_checks x hs) → IsResumed W B C x hs
+  resumed x hs us d r f h =
+      let k : IsContinuation W B x = continuation_at (λ s. s.gives) x us f r in
+      record { features = d; continued = k; handlers = handles x hs k.signature.gives (told_of (λ s. s.gives) x k) h }
+
+  resumed_gives :
+      (x : ℕ) (hs : List Handle) (us : List (Val R)) (b : IsResumed W B C x hs)
+      → option_map (λ (s : Signature R). s.gives) (signed (slice_get B.context.types x)) ≡ Some us → us ≡ b.continued.signature.gives
+  resumed_gives x hs us b f = the_same us b.continued.signature.gives (sym f ∙ told_of (λ s. s.gives) x b.continued)
+
+  -- the checks of its handlers
+  handled : (x : ℕ) (hs : List Handle) (b : IsResumed W B C x hs) → AllHold W B C (handle_checks x hs)
+  handled x hs b = by_handling x hs b.continued.signature.gives (told_of (λ s. s.gives) x b.continued) b.handlers
+
+  -- types, and a reference to the continuation behind them
+  pub handed :
+      (x : ℕ) (t : Option (List (Val R))) (vs : List (Val R)) (b : IsContinuation W B x) → t ≡ Some vs
+      → (t >>= λ us. null_and [] (slice_get B.context.types x) >>= λ ws. Some (us ++ ws)) ≡ Some (vs ++ reference_at true (concrete b.it) ∷ [])
+  handed x t vs b e =
+      bind-at (λ us. null_and [] (slice_get B.context.types x) >>= λ ws. Some (us ++ ws)) e
+      (bind-at (λ ws. Some (vs ++ ws)) (by_null_to [] (slice_get B.context.types x) b.it b.is) refl)
+
+  pub taken_by_handing :
+      (x : ℕ) (t : Option (List (Val R))) (vs taken : List (Val R)) (b : IsContinuation W B x) → t ≡ Some vs
+      → (t >>= λ us. null_and [] (slice_get B.context.types x) >>= λ ws. Some (us ++ ws)) ≡ Some taken
+      → vals taken ≡ vals vs ++ val (reference_at true (concrete b.it)) ∷ []
+  taken_by_handing x t vs taken b d e =
+      ap vals (the_same taken (vs ++ reference_at true (concrete b.it) ∷ []) (sym e ∙ handed x t vs b d)) ∙ vals-append vs (reference_at true (concrete b.it) ∷ [])
+
   pub resumes : (x : ℕ) (hs : List Handle) (ts us : List (ValueType R)) → Rule W B C (continuation_shape (continuations.resume x hs)) ts us → Resumes W B C x hs ts us
   resumes x hs ts us (plain_rule {ts = taken} {us = given} h e f) =
-      let a = bind-gives (option_map (λ (s : Signature R). s.takes) (signed (slice_get B.context.types x))) (λ vs. null_and [] (slice_get B.context.types x) >>= λ ws. Some (vs ++ ws)) taken e in
-      let b = bind-gives (null_and [] (slice_get B.context.types x)) (λ ws. Some (a.0 ++ ws)) taken a.2 in
-      let k = tells (λ s. s.gives) (slice_get B.context.types x) given f in
-      let w : a.0 ≡ k.1.takes = the_same a.0 k.1.takes (sym a.1 ∙ told (λ s. s.takes) (slice_get B.context.types x) k.0 k.1 k.2 k.3) in
-      let v : b.0 ≡ reference_at true (concrete k.0) ∷ [] = the_same b.0 (reference_at true (concrete k.0) ∷ []) (sym b.1 ∙ by_null_to [] (slice_get B.context.types x) k.0 k.2) in
+      let b : IsResumed W B C x hs = resumed x hs given (record { served = h.0; on = h.1.0 }) h.1.1.0 f h.1.1.1 in
       record {
-        resumed = record {
-          it = k.0;
-          signature = k.1;
-          features = record { served = h.0; on = h.1.0 };
-          reached = h.1.1.0;
-          is = k.2;
-          there = k.3;
-          handlers = handles x hs k.1.gives (f ∙ ap (λ (z : List (Val R)). Some z) k.4) h.1.1.1;
-        };
-        takes = ap vals (sym (the_same (a.0 ++ b.0) taken b.2)) ∙ vals-append a.0 b.0 ∙ (λ i. vals (w i) ++ vals (v i));
-        gives = ap vals k.4;
+        resumed = b;
+        takes = taken_by_handing x (option_map (λ (s : Signature R). s.takes) (signed (slice_get B.context.types x))) b.continued.signature.takes taken b.continued (told_of (λ s. s.takes) x b.continued) e;
+        gives = ap vals (resumed_gives x hs given b f);
       }
 
   pub by_resuming : (x : ℕ) (hs : List Handle) (ts us : List (ValueType R)) → Resumes W B C x hs ts us → Rule W B C (continuation_shape (continuations.resume x hs)) ts us
   by_resuming x hs ts us b =
-      let g = b.resumed.signature in
-      let c = reference_at true (concrete b.resumed.it) in
-      let o = slice_get B.context.types x in
-      let f = told (λ s. s.gives) o b.resumed.it g b.resumed.is b.resumed.there in
-      as_written W B C (continuation_shape (continuations.resume x hs)) ts us (vals (g.takes ++ c ∷ [])) (vals g.gives) (b.takes ∙ sym (vals-append g.takes (c ∷ []))) b.gives
-      (plain_rule (b.resumed.features.served, (b.resumed.features.on, (b.resumed.reached, by_handling x hs g.gives f b.resumed.handlers)))
-      (bind-at (λ vs. null_and [] o >>= λ ws. Some (vs ++ ws)) (told (λ s. s.takes) o b.resumed.it g b.resumed.is b.resumed.there)
-      (bind-at (λ ws. Some (g.takes ++ ws)) (by_null_to [] o b.resumed.it b.resumed.is) refl))
-      f)
+      let k = b.resumed.continued in
+      let c = reference_at true (concrete k.it) in
+      as_written W B C (continuation_shape (continuations.resume x hs)) ts us (vals (k.signature.takes ++ c ∷ [])) (vals k.signature.gives)
+      (b.takes ∙ sym (vals-append k.signature.takes (c ∷ []))) b.gives
+      (plain_rule (b.resumed.features.served, (b.resumed.features.on, (k.reached, handled x hs b.resumed)))
+      (handed x (option_map (λ (s : Signature R). s.takes) (signed (slice_get B.context.types x))) k.signature.takes k (told_of (λ s. s.takes) x k)) (told_of (λ s. s.gives) x k))
+
+  -- by a tag, which gives nothing
+  none_given : (vs : List (Val R)) → (length vs == 0) ≡ true → vs ≡ []
+  none_given [] e = refl
+  none_given (v ∷ vs) e = let n : length (v ∷ vs) ≡ 0 = (Decides-eqb (length (v ∷ vs)) 0).0 e in absurd (omega (arith, n))
+
+  pub resumes_by_tag :
+      (x y : ℕ) (hs : List Handle) (ts us : List (ValueType R)) → Rule W B C (continuation_shape (continuations.resume_throw x y hs)) ts us → ResumesByTag W B C x y hs ts us
+  resumes_by_tag x y hs ts us (plain_rule {ts = taken} {us = given} h e f) =
+      let b : IsResumed W B C x hs = resumed x hs given (record { served = h.0; on = h.1.0 }) h.1.1.0 f h.1.1.1.1 in
+      let g = passes-gives (λ (s : Signature R). length s.gives == 0) (signature_at W B (of_tag y)) h.1.1.1.0 in
+      record {
+        resumed = b;
+        tag = g.0;
+        tagged = g.1;
+        gives_nothing = none_given g.0.gives g.2;
+        takes = taken_by_handing x (option_map (λ (s : Signature R). s.takes) (signature_at W B (of_tag y))) g.0.takes taken b.continued (ap (option_map (λ (s : Signature R). s.takes)) g.1) e;
+        gives = ap vals (resumed_gives x hs given b f);
+      }
+
+  pub by_resuming_by_tag :
+      (x y : ℕ) (hs : List Handle) (ts us : List (ValueType R)) → ResumesByTag W B C x y hs ts us → Rule W B C (continuation_shape (continuations.resume_throw x y hs)) ts us
+  by_resuming_by_tag x y hs ts us b =
+      let k = b.resumed.continued in
+      let c = reference_at true (concrete k.it) in
+      let e = ap (passes (λ (s : Signature R). length s.gives == 0)) b.tagged ∙ ap (λ (vs : List (Val R)). length vs == 0) b.gives_nothing in
+      as_written W B C (continuation_shape (continuations.resume_throw x y hs)) ts us (vals (b.tag.takes ++ c ∷ [])) (vals k.signature.gives)
+      (b.takes ∙ sym (vals-append b.tag.takes (c ∷ []))) b.gives
+      (plain_rule (b.resumed.features.served, (b.resumed.features.on, (k.reached, (e, handled x hs b.resumed))))
+      (handed x (option_map (λ (s : Signature R). s.takes) (signature_at W B (of_tag y))) b.tag.takes k (ap (option_map (λ (s : Signature R). s.takes)) b.tagged)) (told_of (λ s. s.gives) x k))
 
   pub resumes_by_exception :
       (x : ℕ) (hs : List Handle) (ts us : List (ValueType R)) → Rule W B C (continuation_shape (continuations.resume_throw_ref x hs)) ts us → ResumesByException W B C x hs ts us
   resumes_by_exception x hs ts us (plain_rule {ts = taken} {us = given} h e f) =
-      let b = bind-gives (null_and [] (slice_get B.context.types x)) (λ ws. Some (reference_at true (abstract_heap false exn_heap) ∷ ws)) taken e in
-      let k = tells (λ s. s.gives) (slice_get B.context.types x) given f in
-      let v : b.0 ≡ reference_at true (concrete k.0) ∷ [] = the_same b.0 (reference_at true (concrete k.0) ∷ []) (sym b.1 ∙ by_null_to [] (slice_get B.context.types x) k.0 k.2) in
+      let b : IsResumed W B C x hs = resumed x hs given (record { served = h.0; on = h.1.0 }) h.1.1.0 f h.1.1.1 in
       record {
-        resumed = record {
-          it = k.0;
-          signature = k.1;
-          features = record { served = h.0; on = h.1.0 };
-          reached = h.1.1.0;
-          is = k.2;
-          there = k.3;
-          handlers = handles x hs k.1.gives (f ∙ ap (λ (z : List (Val R)). Some z) k.4) h.1.1.1;
-        };
-        takes = ap vals (sym (the_same (reference_at true (abstract_heap false exn_heap) ∷ b.0) taken b.2)) ∙ (λ i. val (reference_at true (abstract_heap false exn_heap)) ∷ vals (v i));
-        gives = ap vals k.4;
+        resumed = b;
+        takes = taken_by_handing x (Some (reference_at true (abstract_heap false exn_heap) ∷ [])) (reference_at true (abstract_heap false exn_heap) ∷ []) taken b.continued refl e;
+        gives = ap vals (resumed_gives x hs given b f);
       }
 
   pub by_resuming_by_exception :
       (x : ℕ) (hs : List Handle) (ts us : List (ValueType R)) → ResumesByException W B C x hs ts us → Rule W B C (continuation_shape (continuations.resume_throw_ref x hs)) ts us
   by_resuming_by_exception x hs ts us b =
-      let g = b.resumed.signature in
-      let c = reference_at true (concrete b.resumed.it) in
-      let o = slice_get B.context.types x in
-      let f = told (λ s. s.gives) o b.resumed.it g b.resumed.is b.resumed.there in
-      as_written W B C (continuation_shape (continuations.resume_throw_ref x hs)) ts us (vals (reference_at true (abstract_heap false exn_heap) ∷ c ∷ [])) (vals g.gives) b.takes b.gives
-      (plain_rule (b.resumed.features.served, (b.resumed.features.on, (b.resumed.reached, by_handling x hs g.gives f b.resumed.handlers)))
-      (bind-at (λ ws. Some (reference_at true (abstract_heap false exn_heap) ∷ ws)) (by_null_to [] o b.resumed.it b.resumed.is) refl)
-      f)
+      let k = b.resumed.continued in
+      let n = reference_at true (abstract_heap false exn_heap) in
+      as_written W B C (continuation_shape (continuations.resume_throw_ref x hs)) ts us (vals (n ∷ reference_at true (concrete k.it) ∷ [])) (vals k.signature.gives) b.takes b.gives
+      (plain_rule (b.resumed.features.served, (b.resumed.features.on, (k.reached, handled x hs b.resumed)))
+      (handed x (Some (n ∷ [])) (n ∷ []) k refl) (told_of (λ s. s.gives) x k))

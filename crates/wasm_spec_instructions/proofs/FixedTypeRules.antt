@@ -11,7 +11,7 @@ use Rattle.wasm_spec_steps.specs.Bodies.{Surroundings}
 use Rattle.wasm_spec_steps.specs.Actions.{of_type, joined, top, descriptor_for, fields, new_reference, has_no_descriptor, reaches_type, of_function, of_tag, params, results, global, table_address, table_element, function_reference, has, reference_types, function_references, exceptions, is_exception, function_is_referenced, global_is_mutable, reaches_function, reaches_global, reaches_table}
 use Rattle.wasm_operators.specs.WasmOperatorsAtomic.declared.wide.WideOperator.TheVariants.{I64Add128, I64MulWideS}
 use Rattle.wasm_spec_steps.specs.Shapes.{Shape, plain, ending, nothing, one, reference_to, nullable_to, cast_checks, descriptor_checks, loading, getting, item, aggregate_checks, wide_shape}
-use Rattle.wasm_spec_steps.specs.Meanings.{signature_at, function_heap, top_heap, descriptor_heap, exact_if, fields_at, field_at, element_at, unpack_field, allows_memarg, table_is_64, address, ref_to}
+use Rattle.wasm_spec_steps.specs.Meanings.{signature_at, function_heap, top_heap, descriptor_heap, exact_if, fields_at, field_at, element_at, unpack_field, allows_memarg, address, ref_to}
 use Rattle.wasm_spec_steps.specs.Meanings as meaning
 use Rattle.wasm_spec_instructions.specs.ValueTypes.{ValueType, val, vals, reference_at}
 use Rattle.wasm_spec_instructions.specs.Scopes.{Scope}
@@ -21,7 +21,8 @@ use Rattle.wasm_spec_instructions.proofs.Attempts.{the_same, bind-gives, bind-at
 use Rattle.wasm_spec_instructions.proofs.OperandFits.{vals-append}
 use Rattle.wasm_spec_instructions.proofs.Names.{as_written}
 use Rattle.wasm_spec_instructions.proofs.AttemptResults.{mapped, single, null_and, null_to, by_null_to, found_one}
-use Rattle.wasm_spec_instructions.proofs.ContinuationRules.{makes_continuation, by_making_continuation, suspends, by_suspending, resumes, by_resuming, resumes_by_exception, by_resuming_by_exception}
+use Rattle.wasm_spec_instructions.proofs.ContinuationRules.{makes_continuation, by_making_continuation, suspends, by_suspending, resumes, by_resuming, resumes_by_tag, by_resuming_by_tag, resumes_by_exception, by_resuming_by_exception}
+use Rattle.wasm_spec_instructions.proofs.BindAndSwitchRules.{binds, by_binding, switches, by_switching}
 
 module _ {R : Type 0} (W : World R) (B : Surroundings R) (C : Scope R) where
   rests : (ts us : List (ValueType R)) → Rule W B C (plain [] nothing nothing) ts us → DoesNothing W B ts us
@@ -330,8 +331,11 @@ fixed_types_have_their_rules R W B C = record {
   array_get = λ x ts us. (gets_item W B C x ts us, by_getting_item W B C x ts us);
   add128 = λ ts us. (adds_wide W B C ts us, by_adding_wide W B C ts us);
   cont_new = λ x ts us. (makes_continuation W B C x ts us, by_making_continuation W B C x ts us);
+  cont_bind = λ x y ts us. (binds W B C x y ts us, by_binding W B C x y ts us);
   suspend = λ x ts us. (suspends W B C x ts us, by_suspending W B C x ts us);
   resume = λ x hs ts us. (resumes W B C x hs ts us, by_resuming W B C x hs ts us);
+  resume_throw = λ x y hs ts us. (resumes_by_tag W B C x y hs ts us, by_resuming_by_tag W B C x y hs ts us);
   resume_throw_ref = λ x hs ts us. (resumes_by_exception W B C x hs ts us, by_resuming_by_exception W B C x hs ts us);
+  switch = λ x y ts us. (switches W B C x y ts us, by_switching W B C x y ts us);
   mul_wide_s = λ ts us. (multiplies_wide W B C ts us, by_multiplying_wide W B C ts us);
 }

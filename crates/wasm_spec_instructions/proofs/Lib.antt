@@ -20,6 +20,7 @@ pub mod AcceptedWorlds
 pub mod Names
 pub mod AttemptResults
 pub mod ContinuationRules
+pub mod BindAndSwitchRules
 pub mod FixedTypeRules
 pub mod ScopeGrowth
 pub mod Composition

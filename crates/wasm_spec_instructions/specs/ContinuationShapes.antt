@@ -63,25 +63,69 @@ module _ {R : Type 0} (W : World R) (B : Surroundings R) where
   HandlesAll C ts (handle.OnLabel x l ∷ hs) = HandlesByLabel C ts x l × HandlesAll C ts hs
   HandlesAll C ts (handle.OnSwitch x ∷ hs) = HandlesSwitches ts x × HandlesAll C ts hs
 
-  -- The type of this index is of continuations, which go from some types to others. It may be reached here, and the handlers are of those that
-  -- give the others.
-  pub record IsResumed (C : Scope R) (x : ℕ) (hs : List Handle) : Type 0 where
+  -- C.types[x] = cont (t1* -> t2*), a type that may be reached here
+  pub record IsContinuation (x : ℕ) : Type 0 where
     pub it : R
     pub signature : Signature R
-    pub features : AreServed
     pub reached : holds W B (nowhere W B) (reaches_type x) ≡ true
     pub is : slice_get B.context.types x ≡ Some it
     pub there : continuation_signature W B it ≡ Some signature
-    pub handlers : HandlesAll C signature.gives hs
+
+  -- `cont.bind x y : t3* (ref null x) -> (ref y)`, where C.types[x] = cont (t3* t1* -> t2*), C.types[y] = cont (t4* -> t5*), and t1* -> t2*
+  -- matches t4* -> t5*
+  pub record Binds (x y : ℕ) (ts us : List (ValueType R)) : Type 0 where
+    pub features : AreServed
+    pub from : IsContinuation x
+    pub to : IsContinuation y
+    pub bound : List (Val R)
+    pub left : List (Val R)
+    pub parts : from.signature.takes ≡ bound ++ left
+    pub goes_on : Match W (vals to.signature.takes) (vals left)
+    pub ends : Match W (vals from.signature.gives) (vals to.signature.gives)
+    pub takes : ts ≡ vals bound ++ val (reference_at true (concrete from.it)) ∷ []
+    pub gives : us ≡ val (reference_at false (concrete to.it)) ∷ []
+
+  -- A continuation of the type of this index is resumed, with handlers of those that give what it gives.
+  pub record IsResumed (C : Scope R) (x : ℕ) (hs : List Handle) : Type 0 where
+    pub features : AreServed
+    pub continued : IsContinuation x
+    pub handlers : HandlesAll C continued.signature.gives hs
 
   -- `resume x h* : t1* (ref null x) -> t2*`, where C.types[x] = cont (t1* -> t2*)
   pub record Resumes (C : Scope R) (x : ℕ) (hs : List Handle) (ts us : List (ValueType R)) : Type 0 where
     pub resumed : IsResumed C x hs
-    pub takes : ts ≡ vals resumed.signature.takes ++ val (reference_at true (concrete resumed.it)) ∷ []
-    pub gives : us ≡ vals resumed.signature.gives
+    pub takes : ts ≡ vals resumed.continued.signature.takes ++ val (reference_at true (concrete resumed.continued.it)) ∷ []
+    pub gives : us ≡ vals resumed.continued.signature.gives
+
+  -- `resume_throw x y h* : t* (ref null x) -> t2*`, where C.types[x] = cont (t1* -> t2*), and C.tags[y] = t* -> eps
+  pub record ResumesByTag (C : Scope R) (x y : ℕ) (hs : List Handle) (ts us : List (ValueType R)) : Type 0 where
+    pub resumed : IsResumed C x hs
+    pub tag : Signature R
+    pub tagged : signature_at W B (of_tag y) ≡ Some tag
+    pub gives_nothing : tag.gives ≡ []
+    pub takes : ts ≡ vals tag.takes ++ val (reference_at true (concrete resumed.continued.it)) ∷ []
+    pub gives : us ≡ vals resumed.continued.signature.gives
 
   -- `resume_throw_ref x h* : (ref null exn) (ref null x) -> t2*`, where C.types[x] = cont (t1* -> t2*)
   pub record ResumesByException (C : Scope R) (x : ℕ) (hs : List Handle) (ts us : List (ValueType R)) : Type 0 where
     pub resumed : IsResumed C x hs
-    pub takes : ts ≡ val (reference_at true (abstract_heap false exn_heap)) ∷ val (reference_at true (concrete resumed.it)) ∷ []
-    pub gives : us ≡ vals resumed.signature.gives
+    pub takes : ts ≡ val (reference_at true (abstract_heap false exn_heap)) ∷ val (reference_at true (concrete resumed.continued.it)) ∷ []
+    pub gives : us ≡ vals resumed.continued.signature.gives
+
+  -- `switch x y : t1* (ref null x) -> t2*`, where C.types[x] = cont (t1* (ref null? z) -> t3*), C.types[z] = cont (t2* -> t4*), C.tags[y] = eps -> t*,
+  -- and t3* matches t*, and t* matches t4*
+  pub record Switches (x y : ℕ) (ts us : List (ValueType R)) : Type 0 where
+    pub features : AreServed
+    pub to : IsContinuation x
+    pub tag : Signature R
+    pub left : Signature R
+    pub sent : List (Val R)
+    pub last : Val R
+    pub parts : to.signature.takes ≡ sent ++ last ∷ []
+    pub refers : continued_signature W B (last ∷ []) ≡ Some left
+    pub tagged : signature_at W B (of_tag y) ≡ Some tag
+    pub takes_nothing : tag.takes ≡ []
+    pub ends : Match W (vals to.signature.gives) (vals tag.gives)
+    pub left_ends : Match W (vals tag.gives) (vals left.gives)
+    pub takes : ts ≡ vals sent ++ val (reference_at true (concrete to.it)) ∷ []
+    pub gives : us ≡ vals left.takes

@@ -27,7 +27,7 @@ use Rattle.wasm_spec_instructions.specs.ValueTypes.{ValueType, val, vals, refere
 use Rattle.wasm_spec_instructions.specs.Scopes.{Scope, nowhere}
 use Rattle.wasm_spec_instructions.specs.Rules.{Rule}
 use Rattle.wasm_spec_instructions.specs.Names.{Goes}
-use Rattle.wasm_spec_instructions.specs.ContinuationShapes.{MakesContinuation, Suspends, Resumes, ResumesByException}
+use Rattle.wasm_spec_instructions.specs.ContinuationShapes.{MakesContinuation, Binds, Suspends, Resumes, ResumesByTag, ResumesByException, Switches}
 
 module _ {R : Type 0} (W : World R) (B : Surroundings R) where
   -- `nop : eps -> eps`
@@ -210,9 +210,12 @@ module _ {R : Type 0} (W : World R) (B : Surroundings R) where
     pub array_get : (x : ℕ) (ts us : List (ValueType R)) → Goes W B C (instruction.array (ArrayGet x)) ts us ↔ GetsItem x ts us
     pub add128 : (ts us : List (ValueType R)) → Goes W B C (instruction.wide I64Add128) ts us ↔ AddsWide ts us
     pub cont_new : (x : ℕ) (ts us : List (ValueType R)) → Goes W B C (instruction.continuation (continuations.cont_new x)) ts us ↔ MakesContinuation W B x ts us
+    pub cont_bind : (x y : ℕ) (ts us : List (ValueType R)) → Goes W B C (instruction.continuation (continuations.cont_bind x y)) ts us ↔ Binds W B x y ts us
     pub suspend : (x : ℕ) (ts us : List (ValueType R)) → Goes W B C (instruction.continuation (continuations.suspend x)) ts us ↔ Suspends W B x ts us
     pub resume : (x : ℕ) (hs : List Handle) (ts us : List (ValueType R)) → Goes W B C (instruction.continuation (continuations.resume x hs)) ts us ↔ Resumes W B C x hs ts us
+    pub resume_throw : (x y : ℕ) (hs : List Handle) (ts us : List (ValueType R)) → Goes W B C (instruction.continuation (continuations.resume_throw x y hs)) ts us ↔ ResumesByTag W B C x y hs ts us
     pub resume_throw_ref : (x : ℕ) (hs : List Handle) (ts us : List (ValueType R)) → Goes W B C (instruction.continuation (continuations.resume_throw_ref x hs)) ts us ↔ ResumesByException W B C x hs ts us
+    pub switch : (x y : ℕ) (ts us : List (ValueType R)) → Goes W B C (instruction.continuation (continuations.switch x y)) ts us ↔ Switches W B x y ts us
     pub mul_wide_s : (ts us : List (ValueType R)) → Goes W B C (instruction.wide I64MulWideS) ts us ↔ MultipliesWide ts us
 
 -- Each of these instructions has the standard's rule.
