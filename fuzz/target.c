@@ -14,7 +14,7 @@
 #include <stdlib.h>
 #include <string.h>
 
-#define ALL ((RUTHVELKA_STACK_SWITCHING_OPERATORS << 1) - 1)
+#define ALL ((RUTHVELKA_COMPACT_IMPORTS << 1) - 1)
 #define ROOM 64
 #define MARK 0xA5
 

@@ -3,7 +3,7 @@
    A module is accepted exactly where it is valid under the WebAssembly Core Specification 3.0 and
    the enabled proposals, within fixed limits, and has nothing that is left out. docs/THEOREM.md of
    the repository has the exact statement; docs/PROVED.md says which part of this library is
-   proved: all but c/, some 450 lines of C that test the arguments, pass these calls on, write
+   proved: all but c/, some 500 lines of C that test the arguments, pass these calls on, write
    outcomes and take memory.
 
    How to use it. A program that loads modules makes a validator, gives it one module after
@@ -90,8 +90,8 @@
    limits has no proposal in missing_features: what would lift it is to leave
    RUTHVELKA_CRATE_LIMITS out.
 
-   Left out. Components and compact imports are refused under all features. These are refused
-   without a feature of their own, which RUTHVELKA_STANDARD doesn't have:
+   Left out. Components are refused under all features. These are refused without a feature of
+   their own, which RUTHVELKA_STANDARD doesn't have:
    - the operators on vectors other than v128.const, without RUTHVELKA_VECTOR_OPERATORS;
    - the atomic operators on memories and atomic.fence, without RUTHVELKA_ATOMIC_OPERATORS;
    - try, catch, catch_all, rethrow and delegate, the operators of legacy exceptions, without
@@ -104,9 +104,11 @@
    - the atomic accesses to globals, tables, structures and arrays, and pause, without
      RUTHVELKA_SHARED_ATOMIC_OPERATORS;
    - the operators of stack switching, without RUTHVELKA_STACK_SWITCHING_OPERATORS; continuation
-     types are validated with RUTHVELKA_STACK_SWITCHING alone.
-   A refusal for want of one of the last five has no proposal in missing_features: their opcodes
-   count as unassigned then.
+     types are validated with RUTHVELKA_STACK_SWITCHING alone;
+   - entries of the import section that have several imports, without RUTHVELKA_COMPACT_IMPORTS.
+   A refusal for want of one of the last six has no proposal in missing_features: their opcodes
+   count as unassigned then, and so does the byte that such an entry has where the kind of a
+   single import stands.
 
    Trust. Besides what stands under "Handles", the library trusts its caller for what C can't test:
    that each pointer is of as many items as its count says, that what a call writes overlaps
@@ -173,15 +175,17 @@ extern "C" {
 #define RUTHVELKA_DESCRIPTOR_OPERATORS (UINT64_C(1) << 25)
     /* ref.get_desc, casts and branches by descriptors; they need CUSTOM_DESCRIPTORS too */
 #define RUTHVELKA_SHARED_ATOMIC_OPERATORS (UINT64_C(1) << 26)
-    /* atomic accesses to globals, tables, structures, arrays; they need SHARED_EVERYTHING_THREADS */
+    /* pause, atomic access to globals, tables, structures, arrays; need SHARED_EVERYTHING_THREADS */
 #define RUTHVELKA_STACK_SWITCHING_OPERATORS (UINT64_C(1) << 27)
     /* the operators on continuations; they need STACK_SWITCHING too */
+#define RUTHVELKA_COMPACT_IMPORTS (UINT64_C(1) << 28)
+    /* entries of the import section that have several imports of one module */
 /* All but SHARED_EVERYTHING_THREADS, CUSTOM_PAGE_SIZES, CUSTOM_DESCRIPTORS, STACK_SWITCHING,
    COMPONENT_MODEL, VECTOR_OPERATORS, ATOMIC_OPERATORS, LEGACY_EXCEPTIONS, WIDE_ARITHMETIC,
-   MEMORY_CONTROL, DESCRIPTOR_OPERATORS, SHARED_ATOMIC_OPERATORS and STACK_SWITCHING_OPERATORS; and
-   without CRATE_LIMITS. That is the Core Specification 3.0, but for two things: the operators on
-   vectors other than v128.const are missing, which RUTHVELKA_VECTOR_OPERATORS adds; and
-   RUTHVELKA_THREADS is on, so memories may be shared, which the specification has not. */
+   MEMORY_CONTROL, DESCRIPTOR_OPERATORS, SHARED_ATOMIC_OPERATORS, STACK_SWITCHING_OPERATORS and
+   COMPACT_IMPORTS; and without CRATE_LIMITS. That is the Core Specification 3.0, but for two things:
+   the operators on vectors other than v128.const are missing, which RUTHVELKA_VECTOR_OPERATORS adds;
+   and RUTHVELKA_THREADS is on, so memories may be shared, which the specification has not. */
 #define RUTHVELKA_STANDARD UINT64_C(32703)
 
 /* ruthvelka_version: the version of the library that is linked, as RUTHVELKA_VERSION is that of
@@ -265,6 +269,66 @@ struct ruthvelka_outcome {
        } */
 uint32_t ruthvelka_check(const uint8_t *bytes, size_t length, uint64_t features, char *message,
     size_t message_room, struct ruthvelka_outcome *outcome);
+
+/* ----------------------------------------- Side tables -----------------------------------------
+
+   For interpreters that run bodies in place, over the bytes of the module: where each branch goes,
+   and what it does with the operands. All offsets count from the module's first byte, and have 32
+   bits. */
+
+/* One branch. The entries of a body come in the order of its instructions, those of one instruction
+   in the order of its labels: one for each br, br_if, if, else, br_on_null, br_on_non_null,
+   br_on_cast and br_on_cast_fail, by descriptors or not; one for each label of a br_table, the
+   default last; one for each clause of a try_table, and for each handler of a resume, resume_throw
+   or resume_throw_ref that names a label; and one for each catch and catch_all of a `try`. */
+struct ruthvelka_side_entry {
+    uint32_t at;      /* the offset of the instruction that branches */
+    uint32_t target;  /* the offset of the instruction to go on with */
+    uint32_t next;    /* how many entries come before that one: where to go on in the table */
+    uint32_t kept;    /* how many operands are kept, from the top */
+    uint32_t dropped; /* how many operands below these are dropped */
+};
+
+/* What is told of a table. All but the sizes is written. */
+struct ruthvelka_side_table {
+    uint64_t size;       /* given: sizeof(struct ruthvelka_side_table) */
+    uint64_t entry_size; /* given: sizeof(struct ruthvelka_side_entry) */
+    uint64_t entries;    /* how many entries there are, also where the room was less */
+    uint32_t first;      /* the offset of the body's first instruction, behind its locals */
+    uint32_t end;        /* the offset behind its last instruction, an `end` */
+    uint32_t operands;   /* how many operands it has at most at once */
+    uint32_t locals;     /* how many locals it has, parameters included */
+};
+
+/* ruthvelka_side_table: the side table of the body of the function with this index, imported ones
+   counted, in a module that is valid under these features, by itself. Its entries are written as
+   far as there is room, and nothing behind them changes; the table, which may be null where there
+   is no room for entries, tells how many there are. `length` entries are always enough. Message and
+   outcome are as of ruthvelka_check.
+
+   A branch that is taken goes on at `target`, with the entry `next`; one that isn't goes on behind
+   its instruction, with the entry behind its own. An `if` branches where its condition is 0, to
+   behind its `else` or its `end`; an `else` or a catch that is reached from above branches to behind
+   the `end`. What is taken first, as a condition is, counts neither as kept nor as dropped. In code
+   that isn't reached there may be fewer operands than a branch keeps, and it drops none then.
+
+   The whole module is validated first, so that each call takes as long as ruthvelka_check and more.
+
+   Result: DONE; REFUSED, where the module isn't valid; NO_MEMORY; or WRONG. WRONG too where the
+   module is valid and has no body of that function, or one whose end lies past 4 GiB; where there
+   is room for entries and no table; and where the table's size ends before its locals do, or its
+   entries have another size. Nothing is written then but message and outcome. Threads: any, side by
+   side. Memory: as of calls without a handle (ruthvelka_set_allocator).
+
+       struct ruthvelka_side_table table = {sizeof table, sizeof(struct ruthvelka_side_entry)};
+       struct ruthvelka_side_entry entries[64];
+       if (ruthvelka_side_table(bytes, length, RUTHVELKA_STANDARD, function, NULL, 0, NULL, &table,
+               entries, 64) == RUTHVELKA_STATUS_DONE
+           && table.entries <= 64)
+           interpret(bytes + table.first, entries, table.operands + table.locals); */
+uint32_t ruthvelka_side_table(const uint8_t *bytes, size_t length, uint64_t features,
+    uint32_t function, char *message, size_t message_room, struct ruthvelka_outcome *outcome,
+    struct ruthvelka_side_table *table, struct ruthvelka_side_entry *entries, size_t entry_room);
 
 /* ----------------------------------------- Validators ----------------------------------------- */
 

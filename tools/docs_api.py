@@ -65,7 +65,7 @@ GROUPS = [
     ("parse", "Sections", ["wasm_readers/section_limited"]),
     ("parse", "Custom sections", ["wasm_parser/custom_section"]),
     ("parse", "Bytes, numbers and names", ["wasm_readers_bytes"]),
-    ("items", "Imports and exports", ["wasm_readers/items"]),
+    ("items", "Imports and exports", ["wasm_readers/items", "wasm_readers/imports"]),
     ("items", "Tables, globals and segments", ["wasm_items/tables", "wasm_items/globals", "wasm_items/elements", "wasm_items/data"]),
     ("items", "Bodies and their locals", ["wasm_parser/function_body", "wasm_parser/locals"]),
     ("items", "Single types", ["wasm_readers/types", "wasm_readers/defined_types", "wasm_readers/externs", "wasm_readers/lists"]),

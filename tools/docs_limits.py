@@ -42,7 +42,7 @@ OWN = [
     Row("types, in all recursion groups", Constant(LIMITS, "MAX_TYPES"), "each recursion group", "Counted::Types", "wasm_validator_core/module"),
     Row("recursion groups, after the types so far", Constant(LIMITS, "MAX_TYPES"), SECTION, "Counted::Types", "wasm_validator_sections/plain_items"),
     Row(
-        "entries of the import section, after the pairs of names so far", Constant(LIMITS, "MAX_IMPORTS"), SECTION, "Counted::Imports",
+        "entries of the import section, after the pairs of names so far (with `COMPACT_IMPORTS` an entry may be several imports, or none)", Constant(LIMITS, "MAX_IMPORTS"), SECTION, "Counted::Imports",
         "wasm_validator_sections/plain_items",
     ),
     Row("functions, with imported ones", Constant(LIMITS, "MAX_FUNCTIONS"), BOTH, "Counted::Functions", PLACES),

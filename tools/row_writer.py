@@ -7,7 +7,7 @@ import sys
 WRITTEN = (
     "bodies/aggregates.rows", "bodies/atomics.rows", "bodies/control.rows", "bodies/features.rows", "bodies/legacy_exceptions.rows",
     "bodies/memories.rows", "bodies/numbers.rows", "bodies/references.rows", "bodies/tables.rows", "bodies/variables.rows", "bodies/vectors.rows",
-    "modules/bodies.rows", "modules/constants.rows", "modules/continuations.rows", "modules/descriptors.rows", "modules/fronts.rows", "modules/lists.rows", "modules/shared.rows", "modules/states.rows",
+    "modules/bodies.rows", "modules/compact_imports.rows", "modules/constants.rows", "modules/continuations.rows", "modules/descriptors.rows", "modules/fronts.rows", "modules/lists.rows", "modules/shared.rows", "modules/states.rows",
 )
 HEAD = "modules/modules.rows"
 DATA = os.path.join(os.path.dirname(os.path.dirname(os.path.abspath(__file__))), "crates", "test_all", "data")

@@ -191,9 +191,9 @@ NUMBER = {0x7f: 'i32', 0x7e: 'i64', 0x7d: 'f32', 0x7c: 'f64', 0x7b: 'v128', 0x78
 PROPOSALS = '''mutable_global reference_types multi_value bulk_memory simd threads shared_everything_threads floats multi_memory exceptions memory64
 extended_const function_references gc gc_types custom_page_sizes custom_descriptors stack_switching component_model
 vector_operators atomic_operators legacy_exceptions wide_arithmetic memory_control descriptor_operators shared_atomic_operators
-stack_switching_operators'''.split()
+stack_switching_operators compact_imports'''.split()
 OFF = ['shared_everything_threads', 'custom_descriptors', 'stack_switching', 'custom_page_sizes', 'component_model', 'vector_operators', 'atomic_operators', 'legacy_exceptions',
-       'wide_arithmetic', 'memory_control', 'descriptor_operators', 'shared_atomic_operators', 'stack_switching_operators']
+       'wide_arithmetic', 'memory_control', 'descriptor_operators', 'shared_atomic_operators', 'stack_switching_operators', 'compact_imports']
 
 
 def features_of(text):

@@ -211,8 +211,35 @@ class Scan:
 
     def imported(self):
         self.text()
+        before = self.at
         self.text()
-        kind = self.byte()
+        is_unnamed, kind = self.b[before:self.at].strip(b"\x80") in (b"", b"\0"), self.byte()
+        if is_unnamed and kind == 0x7F:
+            self.need("compact_imports")
+            self.each(lambda: (self.text(), self.external(self.byte())))
+        elif is_unnamed and kind == 0x7E:
+            self.need("compact_imports")
+            self.of_one_type()
+        else:
+            self.external(kind)
+
+    def of_one_type(self):
+        """A type, and the names of imports that each have it, or none."""
+        before = self.state()
+        self.external(self.byte())
+        behind, count = self.at, self.number()
+        if not count:
+            # its type breaks no rule, and asks for nothing
+            self.take((behind, before[1] | {"compact_imports"}, *before[2:]))
+            self.number()
+        for at in range(count):
+            self.text()
+            if at + 1 < count:
+                names, self.at = self.at, before[0]
+                self.external(self.byte())
+                self.at = names
+
+    def external(self, kind):
         if kind in (0, 0x20):
             self.number()
             self.need(*(("custom_descriptors",) if kind else ()))

@@ -76,9 +76,10 @@ FEATURE(RUTHVELKA_MEMORY_CONTROL, 16777216);
 FEATURE(RUTHVELKA_DESCRIPTOR_OPERATORS, 33554432);
 FEATURE(RUTHVELKA_SHARED_ATOMIC_OPERATORS, 67108864);
 FEATURE(RUTHVELKA_STACK_SWITCHING_OPERATORS, 134217728);
-/* All 27 proposals but the thirteen that the header names. */
-FEATURE(RUTHVELKA_STANDARD, 264241151 - 64 - 32768 - 65536 - 131072 - 262144 - 524288 - 1048576 - 2097152 - 8388608 - 16777216 - 33554432 - 67108864
-    - 134217728);
+FEATURE(RUTHVELKA_COMPACT_IMPORTS, 268435456);
+/* All 28 proposals but the fourteen that the header names. */
+FEATURE(RUTHVELKA_STANDARD, 532676607 - 64 - 32768 - 65536 - 131072 - 262144 - 524288 - 1048576 - 2097152 - 8388608 - 16777216 - 33554432 - 67108864
+    - 134217728 - 268435456);
 HAS(RUTHVELKA_FUNCTION, 0);
 HAS(RUTHVELKA_TABLE, 1);
 HAS(RUTHVELKA_MEMORY, 2);
@@ -191,3 +192,17 @@ PLACE(ruthvelka_types, words, 0, 32);
 static const struct ruthvelka_validator validator = RUTHVELKA_NOTHING;
 static const struct ruthvelka_types types = RUTHVELKA_NOTHING;
 HAS(sizeof validator, sizeof types);
+SIZE_OF(ruthvelka_side_entry, 20);
+PLACE(ruthvelka_side_entry, at, 0, 4);
+PLACE(ruthvelka_side_entry, target, 4, 4);
+PLACE(ruthvelka_side_entry, next, 8, 4);
+PLACE(ruthvelka_side_entry, kept, 12, 4);
+PLACE(ruthvelka_side_entry, dropped, 16, 4);
+SIZE_OF(ruthvelka_side_table, 40);
+PLACE(ruthvelka_side_table, size, 0, 8);
+PLACE(ruthvelka_side_table, entry_size, 8, 8);
+PLACE(ruthvelka_side_table, entries, 16, 8);
+PLACE(ruthvelka_side_table, first, 24, 4);
+PLACE(ruthvelka_side_table, end, 28, 4);
+PLACE(ruthvelka_side_table, operands, 32, 4);
+PLACE(ruthvelka_side_table, locals, 36, 4);

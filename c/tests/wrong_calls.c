@@ -38,7 +38,7 @@ static void try_arrays(const struct call *call, const struct rooms *right) {
 /* Each bit that no feature has, alone and beside those of the standard. */
 static void try_features(const struct call *call, const struct rooms *rooms) {
     char what[100];
-    for (int bit = 28; bit < 64; bit++) {
+    for (int bit = 29; bit < 64; bit++) {
         struct input in = right_input;
         snprintf(what, sizeof what, "unknown feature %d", bit);
         in.features = UINT64_C(1) << bit;

@@ -5,7 +5,7 @@ _wasm_check_features='
     mutable_global reference_types multi_value bulk_memory simd threads shared_everything_threads floats multi_memory
     exceptions memory64 extended_const function_references gc gc_types custom_page_sizes custom_descriptors stack_switching
     component_model vector_operators atomic_operators legacy_exceptions crate_limits wide_arithmetic memory_control
-    descriptor_operators shared_atomic_operators stack_switching_operators
+    descriptor_operators shared_atomic_operators stack_switching_operators compact_imports
 '
 # END features
 

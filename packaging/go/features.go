@@ -60,10 +60,12 @@ const (
 	MemoryControl WasmFeatures = 1 << 24
 	// DescriptorOperators: ref.get_desc, casts and branches by descriptors; they need CUSTOM_DESCRIPTORS too.
 	DescriptorOperators WasmFeatures = 1 << 25
-	// SharedAtomicOperators: atomic accesses to globals, tables, structures, arrays; they need SHARED_EVERYTHING_THREADS.
+	// SharedAtomicOperators: pause, atomic access to globals, tables, structures, arrays; need SHARED_EVERYTHING_THREADS.
 	SharedAtomicOperators WasmFeatures = 1 << 26
 	// StackSwitchingOperators: the operators on continuations; they need STACK_SWITCHING too.
 	StackSwitchingOperators WasmFeatures = 1 << 27
+	// CompactImports: entries of the import section that have several imports of one module.
+	CompactImports WasmFeatures = 1 << 28
 )
 
 const (
@@ -109,7 +111,8 @@ const (
 		MemoryControl |
 		DescriptorOperators |
 		SharedAtomicOperators |
-		StackSwitchingOperators
+		StackSwitchingOperators |
+		CompactImports
 )
 
 var names = map[string]WasmFeatures{
@@ -141,4 +144,5 @@ var names = map[string]WasmFeatures{
 	"DESCRIPTOR_OPERATORS":      DescriptorOperators,
 	"SHARED_ATOMIC_OPERATORS":   SharedAtomicOperators,
 	"STACK_SWITCHING_OPERATORS": StackSwitchingOperators,
+	"COMPACT_IMPORTS":           CompactImports,
 }

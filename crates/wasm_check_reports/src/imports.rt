@@ -8,7 +8,7 @@ use crate::items::{Item, Kind, Space, write_item};
 use crate::settings::Form;
 use std::alloc::{AllocError, Global};
 use wasm_validate_files::validator::{
-    EntityType, Import, Parser, Payload, SectionLimited, TypeRef, TypesRef,
+    CompactImports, EntityType, Import, Imports, Parser, Payload, SectionLimited, TypeRef, TypesRef,
 };
 use wasm_validate_files::{Input, bytes_of};
 
@@ -22,8 +22,8 @@ pub struct Imported {
     tags: u32,
 }
 
-/// Writes the imports of a module, each with its place in the section and its index in its own index
-/// space.
+/// Writes the imports of a module, each with its place among all imports and its index in its own index
+/// space. An entry of the section may stand for several.
 pub fn write_imports(
     text: &mut String,
     alloc: Global,
@@ -52,29 +52,76 @@ fn write_section<'a>(
     form: Form,
     section: &SectionLimited<'a, Import<'a>, Global>,
 ) -> Result<(), AllocError> {
-    let mut before = Imported::default();
-    let mut place = 0u32;
-    'imports: for import in section.items() {
-        let import = match import {
-            Ok((_, import)) => import,
+    let mut list = Listed {
+        text,
+        alloc,
+        file,
+        shown,
+        form,
+        before: Imported::default(),
+        place: 0,
+    };
+    'entries: for entry in section.entries().items() {
+        match entry {
+            Ok((_, entry)) => list.write_entry(&entry)?,
             Err(error) if error.is_out_of_memory() => return Err(AllocError),
+            // they were accepted, so none is refused
             Err(_) => break,
-        };
+        }
+    }
+    Ok(())
+}
+
+/// Imports that are written one after another.
+#[derive(Drop)]
+struct Listed<'t, 's> {
+    text: &'t mut String,
+    alloc: Global,
+    file: &'t str,
+    shown: &'t TypesRef<'s, Global>,
+    form: Form,
+    before: Imported,
+    place: u32,
+}
+
+impl Listed<'_, '_> {
+    /// Writes the imports that an entry stands for.
+    fn write_entry(&mut self, entry: &Imports<'_>) -> Result<(), AllocError> {
+        match entry {
+            Imports::Single(import) => self.write(import),
+            Imports::Compact(imports) => self.write_several(*imports),
+        }
+    }
+
+    /// Writes imports one after another.
+    fn write_several(&mut self, imports: CompactImports<'_>) -> Result<(), AllocError> {
+        'imports: for import in imports {
+            match import {
+                Ok((_, import)) => self.write(&import)?,
+                // they have been read before, so none is refused
+                Err(_) => break,
+            }
+        }
+        Ok(())
+    }
+
+    /// Writes an import, with its place among all and its index in its own index space.
+    fn write(&mut self, import: &Import<'_>) -> Result<(), AllocError> {
         let space = space_of(&import.ty);
-        let index = before.count(space);
-        let ty = type_text(alloc, shown, &import, index)?;
+        let index = self.before.count(space);
+        let ty = type_text(self.alloc, self.shown, import, index)?;
         let item = Item {
             kind: Kind::Import(space, index),
-            index: place,
+            index: self.place,
             id: None,
             module: import.module,
             name: import.name,
             ty: ty.as_str(),
         };
-        write_item(text, alloc, file, &item, form)?;
-        place = place.saturating_add(1);
+        write_item(self.text, self.alloc, self.file, &item, self.form)?;
+        self.place = self.place.saturating_add(1);
+        Ok(())
     }
-    Ok(())
 }
 
 /// The index space that an import of this kind has an index of.

@@ -4,14 +4,14 @@ use Rattle.std.specs.Prelude.{ℕ, ◌≡◌, ◌↔◌, ◌≤◌, ◌<◌, ◌
 use Rattle.std.specs.List.{All}
 use Rattle.wasm_spec.specs.Syntax.{reference, map_ref}
 use Rattle.wasm_spec.specs.Values.{u32_at, items_at}
-use Rattle.wasm_spec.specs.BinaryModules.{import_at, export_at}
+use Rattle.wasm_spec.specs.BinaryModules.{export_at}
 use Rattle.wasm_spec.specs.BinaryTypes.{memory_at, tag_at}
 use Rattle.wasm_spec.specs.BinarySections.{TableEntry, GlobalEntry, Element, Data, table_entry_at, global_entry_at, element_at, data_at}
 use Rattle.wasm_spec.specs.Features.{Features}
 use Rattle.wasm_spec_rules.specs.FeatureFlags.{features_of}
 use Rattle.wasm_spec_rules.specs.IndexSpaces.{IndexSpaces, IsFunctionType}
 use Rattle.wasm_spec_rules.specs.ItemRules.{IsValidTableEntry, IsValidMemory, IsValidTag, IsValidGlobal}
-use Rattle.wasm_spec_rules.specs.Limits.{most_imports, most_functions, most_tables, most_memories, most_globals, most_tags, most_exports, most_elements, most_segments, most_body_bytes}
+use Rattle.wasm_spec_rules.specs.Limits.{most_functions, most_tables, most_memories, most_globals, most_tags, most_exports, most_elements, most_segments, most_body_bytes}
 use Rattle.wasm_spec_rules.specs.LinkRules.{IsValidExport, IsValidStart}
 use Rattle.wasm_spec_rules.specs.Parts.{Parts, Expression, index}
 use Rattle.wasm_spec_rules.specs.SegmentRules.{IsValidElement, IsValidData}
@@ -21,14 +21,13 @@ use Rattle.wasm_spec_validity.specs.Typing.{IsConstant, IsTypedGlobal, IsTypedEl
 use Rattle.wasm_validator_types.specs.Spaces.{Spaces}
 use Rattle.wasm_validator_states.specs.WasmValidatorSections.WasmValidatorCore.Answers.{TypesSoFar}
 use Rattle.wasm_validator_states.specs.WasmValidatorSections.WasmLawsCore.Exports.{FitExports, with_exports}
-use Rattle.wasm_validator_states.specs.WasmValidatorSections.WasmLawsCore.Imports.{FitsImport, with_entry}
 use Rattle.wasm_validator_states.specs.WasmValidatorSections.WasmLawsCore.ModuleParts.{listed_table, listed_global, listed_element}
 use Rattle.wasm_validator_states.specs.WasmValidatorSections.WasmValidatorReferences.References.{names_of_tables, names_of_globals, names_of_exports, names_of_elements}
 use Rattle.wasm_validator_states.specs.WasmValidatorSections.ModuleNotes.{Noted, naming, counting}
 use Rattle.wasm_validator_states.specs.WasmValidatorSections.CodeProgress.{Started, starting, taking}
 use Rattle.wasm_validator_states.specs.ValidatorStages.{Standing, in_module, in_code, HoldsValid}
 use Rattle.wasm_validator_states.specs.States.{after_section, after_start, after_data_count, after_code_start, after_body}
-use Rattle.wasm_validator_states.specs.SectionLaws.{HasAdded, HasAddedEach, HasAddedGroups}
+use Rattle.wasm_validator_states.specs.SectionLaws.{HasAdded, HasAddedGroups, HasAddedImports}
 use Rattle.wasm_laws_sections.specs.StateInvariants.{Shows}
 
 -- A module is being read before the start of its code, with these lists.
@@ -77,7 +76,7 @@ abbrev pub ImportsAnywhere : Type 0
 ImportsAnywhere =
     (old new : Standing) (us : TypesSoFar) (m : Spaces) (n : Noted) (C : IndexSpaces) (parts : Parts) (count : ℕ) (bytes : List ℕ) → Reads old us m n C parts
     → (after_section old 2 count bytes ≡ Some new)
-    ↔ HasAddedEach (import_at index) (FitsImport (features_of old.features) C.types) (with_entry m.types C.types) (length m.imports) most_imports old new us m n count bytes
+    ↔ HasAddedImports C.types old new us m n count bytes
 
 abbrev pub FunctionsAnywhere : Type 0
 FunctionsAnywhere =

@@ -29,3 +29,19 @@ pub none_more : {T V : Type 0} (value : T → V) (encoded : List ℕ → Option 
     → 0 < left → encoded bytes ≡ None → with_front (map value items) (many_at encoded left bytes) ≡ None
 none_more value encoded items zero bytes h e = absurd (omega arith)
 none_more value encoded items (suc n) bytes h e = rw e refl
+
+-- the bytes behind items that are read
+abbrev pub behind : {V : Type 0} → Option (List V × List ℕ) → Option (List ℕ)
+behind read = option_map (λ xs. xs.1) read
+
+behind_one : {V : Type 0} (v : V) (read : Option (List V × List ℕ)) → behind read ≡ behind (option_map (λ xs. (v ∷ xs.0, xs.1)) read)
+behind_one v None = refl
+behind_one v (Some xs) = refl
+
+-- they are the same where one item less is left
+pub one_passed : {V : Type 0} (encoded : List ℕ → Option (V × List ℕ)) (v : V) (left : ℕ) (bytes after : List ℕ)
+    → 0 < left → encoded bytes ≡ Some (v, after) → behind (many_at encoded (left - 1) after) ≡ behind (many_at encoded left bytes)
+one_passed encoded v zero bytes after h e = absurd (omega arith)
+one_passed encoded v (suc n) bytes after h e =
+    let back : suc n - 1 ≡ n = omega arith in
+    rw (back, e) (behind_one v (many_at encoded n after))

@@ -9,3 +9,4 @@ pub mod WrittenIndices
 pub mod Items
 pub mod Limits
 pub mod Tables
+pub mod Entries

@@ -7,11 +7,13 @@ ghost use Rattle.wasm_readers.specs.Tables.{TableHeadsBeginTables};
 
 pub mod defined_types;
 pub mod externs;
+pub mod imports;
 pub mod items;
 pub mod lists;
 pub mod section_limited;
 pub mod types;
 
+pub use imports::{CompactImports, Imports};
 pub use items::{Export, Import, TableHead};
 pub use lists::read_list;
 pub use section_limited::{FromReader, SectionItems, SectionLimited};

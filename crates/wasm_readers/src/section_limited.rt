@@ -1,11 +1,11 @@
-ghost use Rattle.std.specs.Prelude.{◌≡◌, ◌==◌, ◌&&◌, ℕ, ◌≤◌, ◌+◌, List, length, Option, Some, None, IfOk, OnErr, map, IfErr};
-ghost use Rattle.std.specs.Option.{option_map};
-ghost use Rattle.wasm_readers_bytes.specs.WasmSpec.Values.{u32_at, items_at};
+ghost use Rattle.std.specs.Prelude.{◌≡◌, ◌==◌, ◌&&◌, ℕ, ◌≤◌, ◌+◌, List, length, Option, Some, None, IfOk, OnErr, IfErr};
+ghost use Rattle.wasm_readers_bytes.specs.WasmSpec.Values.{u32_at};
 ghost use Rattle.wasm_readers_bytes.specs.Reader.{input, SameInput, position_in, original, rest, RefusedFrom, FailedFrom};
 ghost use Rattle.wasm_readers_bytes.specs.WasmReadersErrors.Errors.{Reads};
-ghost use Rattle.wasm_readers.specs.Sections.{next_item, NextItem};
+ghost use Rattle.wasm_readers.specs.Sections.{NextItem};
 ghost use Rattle.wasm_readers.specs.Refusals.{Telling, Tells, NumberRefused};
 
+use crate::{Import, Imports};
 use std::alloc::{Allocator, Global};
 use std::marker::PhantomData;
 use std::ops::Range;
@@ -156,6 +156,21 @@ impl<'a, T, A: Allocator + Copy> SectionLimited<'a, T, A> {
             reader: self.reader,
             left: self.count,
             done: false,
+            alloc: self.alloc,
+            of: PhantomData,
+        }
+    }
+}
+
+impl<'a, A: Allocator + Copy> SectionLimited<'a, Import<'a>, A> {
+    /// The entries, each of which stands for one import, or with `COMPACT_IMPORTS` for several.
+    pub fn entries(&self) -> SectionLimited<'a, Imports<'a>, A>
+        ensures count { result.count ≡ self.now.count }
+        ensures bytes { result.reader ≡ self.now.reader }
+    {
+        SectionLimited {
+            reader: self.reader,
+            count: self.count,
             alloc: self.alloc,
             of: PhantomData,
         }

@@ -91,3 +91,6 @@ shared_atomic_operators_on = has_flag 67108864
 
 abbrev pub stack_switching_operators_on : WasmFeatures → Bool
 stack_switching_operators_on = has_flag 134217728
+
+abbrev pub compact_imports_on : WasmFeatures → Bool
+compact_imports_on = has_flag 268435456

@@ -2,7 +2,7 @@
 //! each flag; and `STANDARD`, the set that is the default.
 
 ghost use Rattle.std.specs.Prelude.{⊤, ◌≡◌, [], ◌∷◌, codes};
-ghost use Rattle.wasm_readers_features.specs.ProposalFlags.{mutable_global_on, reference_types_on, multi_value_on, bulk_memory_on, simd_on, threads_on, shared_everything_threads_on, floats_on, multi_memory_on, exceptions_on, memory64_on, extended_const_on, function_references_on, gc_on, gc_types_on, custom_page_sizes_on, custom_descriptors_on, stack_switching_on, component_model_on, vector_operators_on, atomic_operators_on, legacy_exceptions_on, crate_limits_on, wide_arithmetic_on, memory_control_on, descriptor_operators_on, shared_atomic_operators_on, stack_switching_operators_on};
+ghost use Rattle.wasm_readers_features.specs.ProposalFlags.{mutable_global_on, reference_types_on, multi_value_on, bulk_memory_on, simd_on, threads_on, shared_everything_threads_on, floats_on, multi_memory_on, exceptions_on, memory64_on, extended_const_on, function_references_on, gc_on, gc_types_on, custom_page_sizes_on, custom_descriptors_on, stack_switching_on, component_model_on, vector_operators_on, atomic_operators_on, legacy_exceptions_on, crate_limits_on, wide_arithmetic_on, memory_control_on, descriptor_operators_on, shared_atomic_operators_on, stack_switching_operators_on, compact_imports_on};
 
 use bitflags::{Flag, Flags, bitflag_items};
 
@@ -42,9 +42,12 @@ use bitflags::{Flag, Flags, bitflag_items};
 ///   `pause`. They need `SHARED_EVERYTHING_THREADS` too, which alone allows what is shared.
 /// - `STACK_SWITCHING_OPERATORS`: the operators on continuations. They need `STACK_SWITCHING` too,
 ///   which alone allows the types of continuations.
+/// - `COMPACT_IMPORTS`: entries of the import section that have several imports of one module.
 ///
-/// The last eight have to be asked for, and are in no set but `all()`. Of these `LEGACY_EXCEPTIONS`,
-/// `WIDE_ARITHMETIC` and `MEMORY_CONTROL` are flags of the Rust crate too.
+/// [`STANDARD`](WasmFeatures::STANDARD) has all but these, which have to be asked for: the last nine,
+/// `SHARED_EVERYTHING_THREADS`, `CUSTOM_PAGE_SIZES`, `CUSTOM_DESCRIPTORS`, `STACK_SWITCHING` and
+/// `COMPONENT_MODEL`. Of the last nine `LEGACY_EXCEPTIONS`, `WIDE_ARITHMETIC`, `MEMORY_CONTROL` and
+/// `COMPACT_IMPORTS` are flags of the Rust crate too, and the others are our own.
 ///
 /// - `CRATE_LIMITS`: the limits of the Rust crate's readers: at most 1,000 parameters and 1,000
 ///   results of a function type, 10,000 fields of a structure type, 10,000 catch clauses of a
@@ -87,6 +90,7 @@ bitflag_items! {
         const DESCRIPTOR_OPERATORS = 33554432;
         const SHARED_ATOMIC_OPERATORS = 67108864;
         const STACK_SWITCHING_OPERATORS = 134217728;
+        const COMPACT_IMPORTS = 268435456;
     }
 }
 
@@ -94,8 +98,9 @@ impl WasmFeatures {
     /// All but `SHARED_EVERYTHING_THREADS`, `CUSTOM_DESCRIPTORS`, `STACK_SWITCHING`,
     /// `CUSTOM_PAGE_SIZES`, `COMPONENT_MODEL`, `VECTOR_OPERATORS`, `ATOMIC_OPERATORS`,
     /// `LEGACY_EXCEPTIONS`, `WIDE_ARITHMETIC`, `MEMORY_CONTROL`, `DESCRIPTOR_OPERATORS`,
-    /// `SHARED_ATOMIC_OPERATORS`, `STACK_SWITCHING_OPERATORS` and `CRATE_LIMITS`. So it lacks the
-    /// standard's operators on vectors, and has shared memories, which the standard hasn't.
+    /// `SHARED_ATOMIC_OPERATORS`, `STACK_SWITCHING_OPERATORS`, `COMPACT_IMPORTS` and `CRATE_LIMITS`.
+    /// So it lacks the standard's operators on vectors, and has shared memories, which the standard
+    /// hasn't.
     pub const STANDARD: WasmFeatures = WasmFeatures(32703);
 
     /// No proposal.
@@ -106,11 +111,11 @@ impl WasmFeatures {
     }
 
     /// Every proposal, and so not `CRATE_LIMITS`, which takes away.
-    pub const ALL: WasmFeatures = WasmFeatures(264241151);
+    pub const ALL: WasmFeatures = WasmFeatures(532676607);
 
     /// Every proposal: [`ALL`](WasmFeatures::ALL), and so not `CRATE_LIMITS`.
     pub fn all() -> WasmFeatures
-        ensures { result.0 ≡ 264241151 }
+        ensures { result.0 ≡ 532676607 }
     {
         WasmFeatures::ALL
     }
@@ -315,6 +320,14 @@ impl WasmFeatures {
     {
         self.contains(WasmFeatures::STACK_SWITCHING_OPERATORS)
     }
+
+    /// Whether `COMPACT_IMPORTS` is on: entries of the import section that have several imports of
+    /// one module.
+    pub fn compact_imports(&self) -> bool
+        ensures { result ≡ compact_imports_on self.now }
+    {
+        self.contains(WasmFeatures::COMPACT_IMPORTS)
+    }
 }
 
 impl Flags for WasmFeatures {
@@ -334,7 +347,8 @@ impl Flags for WasmFeatures {
         ∷ (codes "CRATE_LIMITS", 4194304) ∷ (codes "WIDE_ARITHMETIC", 8388608)
         ∷ (codes "MEMORY_CONTROL", 16777216) ∷ (codes "DESCRIPTOR_OPERATORS", 33554432)
         ∷ (codes "SHARED_ATOMIC_OPERATORS", 67108864)
-        ∷ (codes "STACK_SWITCHING_OPERATORS", 134217728) ∷ [] };
+        ∷ (codes "STACK_SWITCHING_OPERATORS", 134217728)
+        ∷ (codes "COMPACT_IMPORTS", 268435456) ∷ [] };
 
     ghost set_of = { λ p. p.0 };
 

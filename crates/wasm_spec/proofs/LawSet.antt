@@ -3,9 +3,9 @@ use Rattle.std.proofs.Common.{◌≡◌, subst, ℕ, List, [], ◌++◌, length,
 use Rattle.wasm_spec.specs.Syntax.{map_val, map_sub, map_rec}
 use Rattle.wasm_spec.specs.Values.{unsigned_at, signed_at, name_at}
 use Rattle.wasm_spec.specs.BinaryTypes.{val_at, rec_at}
-use Rattle.wasm_spec.specs.BinaryModules.{import_at, export_at, map_import}
+use Rattle.wasm_spec.specs.BinaryModules.{import_at, entry_at, export_at, map_import, map_entry}
 use Rattle.wasm_spec.specs.Laws.{ReadingRenames, ReadingGoesOn, ReadingIgnoresWhatFollows, MapAfterMap}
-use Rattle.wasm_spec.proofs.Renaming.{val-renames, rec-renames, import-renames}
+use Rattle.wasm_spec.proofs.Renaming.{val-renames, rec-renames, import-renames, entry-renames}
 use Rattle.wasm_spec.proofs.SyntaxMaps.{map_val-map, map_sub-map, map_rec-map, map_import-map, map_val-same, map_sub-same, map_rec-same, map_import-same}
 use Rattle.wasm_spec.proofs.Front.{Reads, ReadsBy, IsRest, unsigned-reads, signed-reads, name-reads, val-reads, rec-reads, import-reads, export-reads}
 
@@ -20,7 +20,10 @@ module _ {R S : Type 0} where
   pub import_renames : ReadingRenames R S map_import import_at import_at
   import_renames f to bytes = (import-renames f to bytes).is
 
-pub ruleset renaming_laws = (val_renames, rec_renames, import_renames)
+  pub entry_renames : ReadingRenames R S map_entry entry_at entry_at
+  entry_renames f to bytes = (entry-renames f to bytes).is
+
+pub ruleset renaming_laws = (val_renames, rec_renames, import_renames, entry_renames)
 
 -- what a reader does with more bytes behind, for any
 module _ {V : Type 0} (reads : List ℕ → Option (V × List ℕ)) (h : (more bytes : List ℕ) → Reads more 1 bytes (reads bytes) (reads (bytes ++ more))) where

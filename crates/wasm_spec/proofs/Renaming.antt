@@ -1,10 +1,10 @@
 -- Reading with a renamed index map gives what reading gives, renamed. Lemmas over the combinators first, then one for each reader.
-use Rattle.std.proofs.Common.{◌≡◌, refl, ap, ◌∙◌, ℕ, zero, suc, Bool, true, false, if◌then◌else◌, ◌==◌, List, [], map, Option, Some, None, option_map}
+use Rattle.std.proofs.Common.{◌≡◌, refl, ap, ◌∙◌, ℕ, zero, suc, Bool, true, false, if◌then◌else◌, ◌==◌, List, [], ◌&&◌, map, length, Option, Some, None, option_map}
 use Rattle.std.specs.Option.{option_and_then}
-use Rattle.wasm_spec.specs.Syntax.{map_heap, map_ref, map_val, map_storage, map_field, map_comp, map_sub, map_rec, map_table, map_global, map_extern}
+use Rattle.wasm_spec.specs.Syntax.{Extern, map_heap, map_ref, map_val, map_storage, map_field, map_comp, map_sub, map_rec, map_table, map_global, map_extern}
 use Rattle.wasm_spec.specs.Values.{byte_at, u32_at, s33_index_at, many_at, list_at, name_at}
 use Rattle.wasm_spec.specs.BinaryTypes.{flag_at, flags_at, limits_at, memory_at, tag_at, index_at, plain_heap_from, abstract_heap_from, abstract_heap_at, heap_at, ref_at, val_at, storage_at, field_at, func_at, comp_at, index_behind, marked_index_at, marked_at, final_or_not, sub_at, rec_at, table_at, global_at}
-use Rattle.wasm_spec.specs.BinaryModules.{extern_at, import_at, map_import}
+use Rattle.wasm_spec.specs.BinaryModules.{extern_at, import_at, item_at, named_at, items_from, entry_at, map_import, map_entry}
 
 -- the second result is the first with its value renamed, and leaves the same bytes
 pub record Renames {V W : Type 0} (u : V → W) (o : Option (V × List ℕ)) (p : Option (W × List ℕ)) : Type 0 where
@@ -164,3 +164,21 @@ module _ {R S : Type 0} (f : R → S) (to : ℕ → R) where
   unfolding import_at
   import-renames bytes =
       renames_same_then (name_at bytes) _ _ (λ m. renames_same_then (name_at m.1) _ _ (λ n. renames_map _ _ (extern-renames n.1) (λ t. refl)))
+
+  item-renames : (m bytes : List ℕ) → Renames (map_import f) (item_at to m bytes) (item_at then_renamed m bytes)
+  item-renames m bytes = renames_same_then (name_at bytes) _ _ (λ n. renames_map _ _ (extern-renames n.1) (λ t. refl))
+
+  named-renames : (m : List ℕ) (ty : Extern R) (bytes : List ℕ) → Renames (map_import f) (named_at m ty bytes) (named_at m (map_extern f ty) bytes)
+  named-renames m ty bytes = renames_same_map (name_at bytes) _ _ (λ n. refl)
+
+  items_from-renames : (m bytes name : List ℕ) (b : ℕ) (more : List ℕ) → Renames (map_entry f) (items_from to m bytes name b more) (items_from then_renamed m bytes name b more)
+  items_from-renames m bytes name b more =
+      renames_if (length name == 0 && b == 0x7F) (renames_list (map_import f) _ _ (item-renames m) more)
+      (renames_if (length name == 0 && b == 0x7E)
+      (renames_then _ _ (extern-renames more) (λ t. renames_list (map_import f) _ _ (named-renames m t.0) t.1))
+      (renames_map _ _ (item-renames m bytes) (λ i. refl)))
+
+  pub entry-renames : (bytes : List ℕ) → Renames (map_entry f) (entry_at to bytes) (entry_at then_renamed bytes)
+  unfolding entry_at
+  entry-renames bytes =
+      renames_same_then (name_at bytes) _ _ (λ m. renames_same_then (name_at m.1) _ _ (λ n. renames_same_then (byte_at n.1) _ _ (λ b. items_from-renames m.0 m.1 n.0 b.0 b.1)))

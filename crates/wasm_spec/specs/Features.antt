@@ -31,6 +31,7 @@ pub record Features : Type 0 where
   pub descriptor_operators : Bool
   pub shared_atomic_operators : Bool
   pub stack_switching_operators : Bool
+  pub compact_imports : Bool
 
 -- whether equal types are one type: without these features no type can refer to another, and each written type is its own
 abbrev pub canonical : Features → Bool

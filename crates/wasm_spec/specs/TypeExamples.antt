@@ -38,6 +38,7 @@ features b = record {
   descriptor_operators = b;
   shared_atomic_operators = b;
   stack_switching_operators = b;
+  compact_imports = b;
 }
 
 module _ {R : Type 0} where

@@ -6,7 +6,7 @@ ghost use Rattle.std.specs.Prelude.{ℕ};
 ghost use Rattle.wasm_spec.specs.Syntax.{map_val, map_sub, map_rec};
 ghost use Rattle.wasm_spec.specs.Values.{unsigned_at, signed_at, name_at};
 ghost use Rattle.wasm_spec.specs.BinaryTypes.{val_at, rec_at};
-ghost use Rattle.wasm_spec.specs.BinaryModules.{import_at, export_at, map_import};
+ghost use Rattle.wasm_spec.specs.BinaryModules.{import_at, entry_at, export_at, map_import, map_entry};
 ghost use Rattle.wasm_spec.specs.Laws.{ReadingRenames, ReadingGoesOn, ReadingIgnoresWhatFollows, MapAfterMap, MapBySame};
 ghost use Rattle.wasm_spec.specs.TypeLaws.{MembersOfClosed, StartOfClosed, EqualTreesEqualGroups, DifferentGroupsDifferentTypes, AppendedGroup, FrontOfTypeSpace, EarlierTypesStay, SingleRecIsPlain, EachWrittenGroupIsItsOwn, MatchingIsReflexive, MatchingIsTransitive, MatchingIsAntisymmetric, AcceptedTypesMatchAncestors, DepthsAreSmall, ValidTypeSectionIsAccepted, TestsDecideMatching, SelfMentionsAreOneTree, TypesDeclareWhatIsWritten, AppendedListedGroup, EarlierIdsStay, EqualTreesEqualListedGroups, ListedGroupIsWrittenGroup};
 ghost use Rattle.wasm_spec.specs.TypeExamples.{FinalStructStillMatches, ExtendedStructHasOneAncestor, DescribedPairIsValid, MutualStructsAreOneTree, MutualStructsAreTypes, NoRecWithoutGc, NoIndexPastTheEnd, ExtendsOpenStruct, FinalStructIsNotExtended, ImmutableFieldMatches, MutableFieldDoesNotMatch, ParametersMatchBackwards, ParametersDoNotMatchForwards};
@@ -17,6 +17,7 @@ pub fn reading_renames<R, S>()
     ensures value_types { ReadingRenames R S map_val val_at val_at }
     ensures recursive_types { ReadingRenames R S map_rec rec_at rec_at }
     ensures imports { ReadingRenames R S map_import import_at import_at }
+    ensures entries { ReadingRenames R S map_entry entry_at entry_at }
 {}
 
 /// What is read takes at least one byte, and leaves the bytes behind it as they are.

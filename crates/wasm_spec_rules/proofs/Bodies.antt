@@ -246,7 +246,7 @@ agreed : (t : Tally) → agrees t ≡ true → functions_in t ≡ bodies_in t
 agreed t e = eqb-true t.functions t.bodies (first_holds (eqb t.functions t.bodies) (is_none_or t.declared t.segments) e)
 
 pub bodies_are_as_many_as_functions : BodiesAreAsManyAsFunctions
-bodies_are_as_many_as_functions expression_at bytes pieces f parts h =
+bodies_are_as_many_as_functions compact expression_at bytes pieces f parts h =
     sym (ap length h.bodies)
     ∙ all_announced f.sections f.others f.made
     ∙ sym (bodies_counted f.sections f.others f.in_order f.made)

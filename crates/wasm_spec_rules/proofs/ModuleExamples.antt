@@ -1,12 +1,15 @@
 -- The worked examples of modules.
-use Rattle.std.proofs.Common.{◌≡◌, refl, sym, ap, ◌∙◌, arith, ℕ, ◌≤◌, ◌<◌, true, false, List, [], ◌∷◌, map, length, drop, slice_get, Some, None}
+use Rattle.std.proofs.Common.{◌≡◌, refl, sym, ap, ◌∙◌, arith, ℕ, zero, suc, ◌≤◌, ◌<◌, true, false, List, [], ◌∷◌, map, length, drop, slice_get, slice_index, Some, None}
 use Rattle.std.proofs.lemmas.List.Elements.{All-nil, All-cons}
 use Rattle.std.proofs.lemmas.Map.Keys.{IsDistinct-head}
 use Rattle.std.specs.Option.{option_map, option_and_then}
 use Rattle.std.specs.Cmp.Lexicographic.{nat_list_eq_equiv}
 use Rattle.std.proofs.lemmas.Map.Made.{IsDistinct-from_count}
 use Rattle.std.proofs.lemmas.Option.{same_Some}
+use Rattle.std.specs.Str.{is_utf8}
+use Rattle.std.proofs.lemmas.Str.{is_utf8-from_IsUtf8, IsUtf8-from_ascii}
 use Rattle.wasm_readers_errors.specs.WasmSpec.Syntax.{Val, i32, Sub, map_sub}
+use Rattle.wasm_readers_errors.specs.WasmSpec.BinaryModules.{extern_at, import_at, entry_at}
 use Rattle.wasm_readers_errors.specs.WasmSpec.BinarySections.{GlobalEntry}
 use Rattle.wasm_readers_errors.specs.WasmSpec.Closing.{resolve}
 use Rattle.wasm_readers_errors.specs.WasmSpec.GroupRules.{IsValidType}
@@ -19,7 +22,7 @@ use Rattle.wasm_spec_rules.specs.LinkRules.{IsValidImport, IsValidExport, IsVali
 use Rattle.wasm_spec_rules.specs.SegmentRules.{IsValidElement, IsValidData}
 use Rattle.wasm_spec_rules.specs.Modules.{IsAllowedPiece}
 use Rattle.wasm_readers_errors.specs.WasmSpec.Trees.{TypeUse, DefType, close, denote, declared}
-use Rattle.wasm_spec_rules.specs.ModuleExamples.{TableOfOneOrTwo, NoTableOfTwoToOne, NoTableWithoutEntries, MemoryOfAllAddresses, NoMemoryPastAllAddresses, MemoryOfSmallPages, NoMemoryPastSmallPages, NoMemoryOfLargerPages, NoSharedGlobal, NoTagWithoutExceptions, NoMutableImport, MemoryIsExported, NoSecondMemory, NoNameTwice, SizeIsThree, NoPassiveElements, NoWrittenElements, OffsetsReference, NoPassiveData, NoTwoMemories, HeaderIsModule, NoVersionTwo, NoStartWithParameter, first_version, taking_type}
+use Rattle.wasm_spec_rules.specs.ModuleExamples.{TableOfOneOrTwo, NoTableOfTwoToOne, NoTableWithoutEntries, MemoryOfAllAddresses, NoMemoryPastAllAddresses, MemoryOfSmallPages, NoMemoryPastSmallPages, NoMemoryOfLargerPages, NoSharedGlobal, NoTagWithoutExceptions, NoMutableImport, MemoryIsExported, NoSecondMemory, NoNameTwice, SizeIsThree, NoPassiveElements, NoWrittenElements, OffsetsReference, NoPassiveData, NoTwoMemories, HeaderIsModule, NoVersionTwo, NoStartWithParameter, EntryOfOneTypeIsTwo, EntryWithTypesIsTwo, NoEntryIsTwo, first_version, taking_type}
 use Rattle.wasm_spec_rules.specs.Limits.{most_segments, most_body_bytes}
 
 pub table_of_one_or_two : TableOfOneOrTwo
@@ -208,5 +211,28 @@ no_start_with_parameter types e v =
     let same : record { tree = close (Some 0) (map (map_sub (resolve [])) taking_type.types); position = 0 } ∷ [] ≡ types = let h : Some (record { tree = close (Some 0) (map (map_sub (resolve [])) taking_type.types); position = 0 } ∷ []) ≡ Some types = e in cc in
     let has : signature_at types v.ty ≡ Some (i32 ∷ [], []) = (λ i. signature_at (sym same i) (ty i)) ∙ taking_signature in
     takes_some i32 [] (parameters (i32 ∷ [], []) ([], []) (sym has ∙ v.takes_and_gives_nothing))
+
+-- the names in these entries are texts
+below : (b : ℕ) → b < 128 → (i : ℕ) → slice_index (b ∷ []) i < 128
+below b small zero = small
+below b small (suc i) = omega arith
+
+letter : (b : ℕ) → b < 128 → is_utf8 (b ∷ []) ≡ true
+letter b small = is_utf8-from_IsUtf8 (b ∷ []) (IsUtf8-from_ascii (b ∷ []) (below b small))
+
+nothing : is_utf8 [] ≡ true
+nothing = is_utf8-from_IsUtf8 [] (IsUtf8-from_ascii [] (λ i. omega arith))
+
+pub entry_of_one_type_is_two : EntryOfOneTypeIsTwo
+unfolding entry_at extern_at
+entry_of_one_type_is_two = rw (letter 0x6d (omega arith)) (rw nothing (rw (letter 0x61 (omega arith)) (rw (letter 0x62 (omega arith)) refl)))
+
+pub entry_with_types_is_two : EntryWithTypesIsTwo
+unfolding entry_at extern_at
+entry_with_types_is_two = rw (letter 0x6d (omega arith)) (rw nothing (rw (letter 0x61 (omega arith)) (rw (letter 0x62 (omega arith)) refl)))
+
+pub no_entry_is_two : NoEntryIsTwo
+unfolding import_at extern_at
+no_entry_is_two = (rw (letter 0x6d (omega arith)) (rw nothing refl), rw (letter 0x6d (omega arith)) (rw nothing refl))
 
 pub ruleset examples = (table_of_one_or_two, no_table_of_two_to_one, no_table_without_entries, memory_of_all_addresses, no_memory_past_all_addresses, memory_of_small_pages, no_memory_past_small_pages, no_memory_of_larger_pages, no_shared_global, no_tag_without_exceptions, no_mutable_import, memory_is_exported, no_second_memory, no_name_twice, size_is_three, no_start_with_parameter, no_written_elements, offsets_reference, no_passive_elements, no_passive_data, no_two_memories, header_is_module, no_version_two)

@@ -33,4 +33,5 @@ features_of flags = record {
   descriptor_operators = has_flag 33554432 flags;
   shared_atomic_operators = has_flag 67108864 flags;
   stack_switching_operators = has_flag 134217728 flags;
+  compact_imports = has_flag 268435456 flags;
 }

@@ -1,13 +1,14 @@
 -- Worked examples of the rules of modules, as facts that a contract can name: for each kind of item one that keeps its
 -- rules, or one that doesn't and the rule that it breaks.
 use Rattle.std.specs.Prelude.{ℕ, ◌≡◌, true, false, List, [], ◌∷◌, Option, Some, None}
-use Rattle.wasm_readers_errors.specs.WasmSpec.Syntax.{i32, i64, Table, Memory, global_extern, func, Rec}
+use Rattle.wasm_readers_errors.specs.WasmSpec.Syntax.{i32, i64, Table, Memory, func_extern, global_extern, func, Rec}
 use Rattle.wasm_readers_errors.specs.WasmSpec.BinaryModules.{Import, Export}
 use Rattle.wasm_readers_errors.specs.WasmSpec.BinarySections.{funcref, ref_func, passive, active, functions, expressions}
 use Rattle.wasm_readers_errors.specs.WasmSpec.Features.{Features}
 use Rattle.wasm_readers_errors.specs.WasmSpec.Trees.{DefType}
 use Rattle.wasm_readers_errors.specs.WasmSpec.Closing.{type_space}
-use Rattle.wasm_spec_rules.specs.Parts.{Parts, Expression}
+use Rattle.wasm_readers_errors.specs.WasmSpec.Framing.{Piece, Counted}
+use Rattle.wasm_spec_rules.specs.Parts.{Parts, Expression, imports_of}
 use Rattle.wasm_spec_rules.specs.IndexSpaces.{IndexSpaces}
 use Rattle.wasm_spec_rules.specs.ItemRules.{IsValidTable, IsValidTableEntry, IsValidMemory, IsValidTag, IsValidGlobal}
 use Rattle.wasm_spec_rules.specs.LinkRules.{IsValidImport, IsValidExport, HasDistinctNames, effective_size, IsValidStart, referenced}
@@ -46,6 +47,7 @@ first_version = record {
   descriptor_operators = false;
   shared_atomic_operators = false;
   stack_switching_operators = false;
+  compact_imports = false;
 }
 
 -- a table of so many entries
@@ -185,3 +187,24 @@ HeaderIsModule = (expression_at : List ℕ → Option (Expression × List ℕ)) 
 -- breaks `first`: the version is 2
 abbrev pub NoVersionTwo : Type 0
 NoVersionTwo = (expression_at : List ℕ → Option (Expression × List ℕ)) (F : Features) → IsWellFormed expression_at F (0x00 ∷ 0x61 ∷ 0x73 ∷ 0x6d ∷ 2 ∷ 0 ∷ 0 ∷ 0 ∷ []) → ⊥
+
+-- an import section of one entry, which is two imports from `m`: `a` and `b`, of the function type 0
+abbrev pub two_of_one_type : List Piece
+two_of_one_type = Counted 2 1 (1 ∷ 0x6d ∷ 0 ∷ 0x7e ∷ 0 ∷ 0 ∷ 2 ∷ 1 ∷ 0x61 ∷ 1 ∷ 0x62 ∷ []) ∷ []
+
+-- the same with a type for each
+abbrev pub two_with_types : List Piece
+two_with_types = Counted 2 1 (1 ∷ 0x6d ∷ 0 ∷ 0x7f ∷ 2 ∷ 1 ∷ 0x61 ∷ 0 ∷ 0 ∷ 1 ∷ 0x62 ∷ 0 ∷ 0 ∷ []) ∷ []
+
+abbrev pub import_of : ℕ → Import ℕ
+import_of name = record { module_name = 0x6d ∷ []; item_name = name ∷ []; ty = func_extern 0 }
+
+abbrev pub EntryOfOneTypeIsTwo : Type 0
+EntryOfOneTypeIsTwo = imports_of true two_of_one_type ≡ Some (import_of 0x61 ∷ import_of 0x62 ∷ [])
+
+abbrev pub EntryWithTypesIsTwo : Type 0
+EntryWithTypesIsTwo = imports_of true two_with_types ≡ Some (import_of 0x61 ∷ import_of 0x62 ∷ [])
+
+-- without compact imports neither is an entry
+abbrev pub NoEntryIsTwo : Type 0
+NoEntryIsTwo = (imports_of false two_of_one_type ≡ None) × (imports_of false two_with_types ≡ None)

@@ -1,5 +1,5 @@
 -- When a module is valid. Core Specification 3.0, Validation, Modules.
-use Rattle.std.specs.Prelude.{ℕ, ◌≡◌, ◌<◌, ◌==◌, List, slice_get, Option, Some, IsTrue, ⊤}
+use Rattle.std.specs.Prelude.{ℕ, ◌≡◌, ◌≤◌, ◌<◌, ◌==◌, List, slice_get, Option, Some, IsTrue, ⊤}
 use Rattle.std.specs.List.{All}
 use Rattle.wasm_readers_errors.specs.WasmSpec.Features.{Features}
 use Rattle.wasm_readers_errors.specs.WasmSpec.BinarySections.{GlobalEntry}
@@ -10,11 +10,12 @@ use Rattle.wasm_spec_rules.specs.IndexSpaces.{IndexSpaces, index_spaces, IsFunct
 use Rattle.wasm_spec_rules.specs.ItemRules.{IsValidTableEntry, IsValidMemory, IsValidTag, IsValidGlobal}
 use Rattle.wasm_spec_rules.specs.LinkRules.{IsValidImport, IsValidExport, HasDistinctNames, effective_size, IsValidStart}
 use Rattle.wasm_spec_rules.specs.SegmentRules.{IsValidElement, IsValidData}
-use Rattle.wasm_spec_rules.specs.Limits.{size_limit, KeepsLimits}
+use Rattle.wasm_spec_rules.specs.Limits.{most_imports, size_limit, KeepsLimits}
 
--- a section is known, and allowed: tags, be they none, with exceptions, and a data count with bulk memory
+-- A section is known, and allowed: tags, be they none, with exceptions, and a data count with bulk memory. An import
+-- section has no more entries than a module may have imports, be they compact and have none.
 abbrev pub IsAllowedPiece : Features → Piece → Type 0
-IsAllowedPiece F (Counted id n bytes) = IsTrue (id == 13) → IsTrue F.exceptions
+IsAllowedPiece F (Counted id n bytes) = (IsTrue (id == 13) → IsTrue F.exceptions) × (IsTrue (id == 2) → n ≤ most_imports)
 IsAllowedPiece F (DataCount n) = IsTrue F.bulk_memory
 IsAllowedPiece F (Unknown id bytes) = ⊥
 IsAllowedPiece F _ = ⊤
@@ -43,6 +44,6 @@ pub record IsWellFormed (expression_at : List ℕ → Option (Expression × List
   pub first : slice_get pieces 0 ≡ Some (Version 1 0)
   pub allowed : All (IsAllowedPiece F) pieces
   pub parts : Parts
-  pub has_parts : HasParts expression_at pieces parts
+  pub has_parts : HasParts F.compact_imports expression_at pieces parts
   pub types : IsValidTypeSection F parts.groups
   pub rules : AreValidParts F (index_spaces types.types parts) parts

@@ -5,7 +5,7 @@
 ghost use Rattle.wasm_spec_rules.specs.Contexts.{ContextsAreRenamed, RepeatedTypeIsOne};
 ghost use Rattle.wasm_spec_rules.specs.LimitLaws.{LimitsAreOptIn};
 ghost use Rattle.wasm_spec_rules.specs.Totals.{TotalsGoOn};
-ghost use Rattle.wasm_spec_rules.specs.ModuleExamples.{TableOfOneOrTwo, NoTableOfTwoToOne, NoTableWithoutEntries, MemoryOfAllAddresses, NoMemoryPastAllAddresses, MemoryOfSmallPages, NoMemoryPastSmallPages, NoMemoryOfLargerPages, NoSharedGlobal, NoTagWithoutExceptions, NoMutableImport, MemoryIsExported, NoSecondMemory, NoNameTwice, SizeIsThree, NoStartWithParameter, NoPassiveElements, NoWrittenElements, OffsetsReference, NoPassiveData, NoTwoMemories, HeaderIsModule, NoVersionTwo};
+ghost use Rattle.wasm_spec_rules.specs.ModuleExamples.{TableOfOneOrTwo, NoTableOfTwoToOne, NoTableWithoutEntries, MemoryOfAllAddresses, NoMemoryPastAllAddresses, MemoryOfSmallPages, NoMemoryPastSmallPages, NoMemoryOfLargerPages, NoSharedGlobal, NoTagWithoutExceptions, NoMutableImport, MemoryIsExported, NoSecondMemory, NoNameTwice, SizeIsThree, NoStartWithParameter, NoPassiveElements, NoWrittenElements, OffsetsReference, NoPassiveData, NoTwoMemories, HeaderIsModule, NoVersionTwo, EntryOfOneTypeIsTwo, EntryWithTypesIsTwo, NoEntryIsTwo};
 ghost use Rattle.wasm_spec_rules.specs.Bodies.{BodiesAreAsManyAsFunctions};
 
 /// Worked examples of the rules of modules.
@@ -34,6 +34,9 @@ pub fn module_examples()
     ensures no_memories { NoTwoMemories }
     ensures header { HeaderIsModule }
     ensures no_version { NoVersionTwo }
+    ensures one_type { EntryOfOneTypeIsTwo }
+    ensures with_types { EntryWithTypesIsTwo }
+    ensures no_compact { NoEntryIsTwo }
 {}
 
 /// Without `crate_limits` every composite type and every name keeps the limits that it asks for; with

@@ -115,7 +115,7 @@ global_is_module = record {
     first = refl;
     allowed =
         All-cons (IsAllowedPiece first_version) (Version 1 0) (Counted 6 1 section ∷ End ∷ []) tt
-        (All-cons (IsAllowedPiece first_version) (Counted 6 1 section) (End ∷ []) (λ h. absurd (no h))
+        (All-cons (IsAllowedPiece first_version) (Counted 6 1 section) (End ∷ []) (λ h. absurd (no h), λ h. absurd (no h))
         (All-cons (IsAllowedPiece first_version) End [] tt (All-nil (IsAllowedPiece first_version))));
     parts = parts;
     has_parts = record { groups = refl; imports = refl; functions = refl; tables = refl; memories = refl; globals = refl; exports = refl; starts = refl; elements = refl; bodies = refl; segments = refl; data_counts = refl; tags = refl };

@@ -30,13 +30,13 @@ pub use wasm_validator_states::{
 /// Passed on from `wasm_readers`, `wasm_items` and `wasm_parser`.
 pub mod readers {
     pub use wasm_readers::{
-        AbstractHeapType, ArrayType, BinaryReader, CompositeInnerType, CompositeType, ContType,
-        CoreTypeId, Counted, DescriptorRule, Export, ExternalKind, Fault, FieldType, FromReader,
-        FuncType, GlobalType, GroupRule, HeapType, Import, Integer, ItemKind, ItemRule, Items,
-        MAX_IDS, Malformed, MemoryType, OutOfOrder, PackedIndex, RecGroup, RefType, Refusal, Rule,
-        SectionItems, SectionLimited, StorageType, StructType, SubType, TableHead, TableType,
-        TagKind, TagType, TypeRef, UnpackedIndex, ValType, ValueTypeRule, WasmFeatures,
-        readers_errors,
+        AbstractHeapType, ArrayType, BinaryReader, CompactImports, CompositeInnerType,
+        CompositeType, ContType, CoreTypeId, Counted, DescriptorRule, Export, ExternalKind, Fault,
+        FieldType, FromReader, FuncType, GlobalType, GroupRule, HeapType, Import, Imports, Integer,
+        ItemKind, ItemRule, Items, MAX_IDS, Malformed, MemoryType, OutOfOrder, PackedIndex,
+        RecGroup, RefType, Refusal, Rule, SectionItems, SectionLimited, StorageType, StructType,
+        SubType, TableHead, TableType, TagKind, TagType, TypeRef, UnpackedIndex, ValType,
+        ValueTypeRule, WasmFeatures, readers_errors,
     };
     pub use wasm_validator_states::parser::{
         CustomSectionReader, Encoding, FunctionBody, ParseAll, Parser, Payload, items, locals,

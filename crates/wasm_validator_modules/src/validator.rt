@@ -30,19 +30,13 @@
 //! Specification 3.0 gives them (Validation, Modules; Binary Format, Modules).
 
 ghost use Rattle.wasm_readers_errors.specs.WasmReadersFeatures.declared.features.TheConstants.WasmFeatures.{STANDARD};
-ghost use Rattle.std.specs.Prelude.{◌≡◌, List, ◌∷◌, ◌-◌, not, [], IfOk, IfErr, IfSome, IfNone, IsSome, IsErr, OnOk, OnErr, Some, None, true, false, is_ok, ◌↔◌, ◌+◌};
+ghost use Rattle.std.specs.Prelude.{◌≡◌, ◌∷◌, ◌-◌, [], IfOk, IfErr, IfSome, IsSome, IsErr, Some, None, true, false, is_ok, ◌↔◌, ◌+◌};
 ghost use Rattle.wasm_validator_states.specs.WasmValidatorSections.WasmValidatorCore.Errors.{IsContent, offset_of};
 ghost use Rattle.wasm_readers.specs.WasmReadersBytes.Reader.{original, position_in};
 ghost use Rattle.wasm_readers_errors.specs.Refusals.{plain};
 ghost use Rattle.wasm_spec_rules.specs.FeatureFlags.{features_of};
 ghost use Rattle.wasm_readers.specs.SectionsSeen.{count_of, bytes_of, section_start, section_end};
 ghost use Rattle.wasm_validator_states.specs.WasmParser.PayloadViews.{body_of, body_reader};
-ghost use Rattle.wasm_validator_states.specs.WasmValidatorSections.WasmValidatorCore.Answers.{TypesSoFar};
-ghost use Rattle.wasm_validator_states.specs.WasmValidatorSections.declared.code_state.TheConstants.{MAX_FUNCTION_SIZE};
-ghost use Rattle.wasm_validator_states.specs.WasmValidatorTypeList.GroupInterning.{AreOnce};
-ghost use Rattle.wasm_validator_states.specs.WasmValidatorTypeList.ListViews.{Listing, committed};
-ghost use Rattle.wasm_readers_types.specs.declared.types.SubType.{SubType};
-ghost use Rattle.wasm_validator_states.specs.ModuleInvariants.{AreIdsIn, AreValidIn, AreFirstIn};
 ghost use Rattle.wasm_validator_states.specs.WasmValidatorTypeList.DefTypes.{types_of_list};
 ghost use Rattle.wasm_validator_states.specs.WasmValidatorTypes.ShownModules.{shown_of, shown_by, HoldsIds};
 ghost use Rattle.wasm_validator_states.specs.Payloads.{Show};
@@ -53,7 +47,6 @@ ghost use Rattle.wasm_validator_states.specs.BodyAnswers.{body_told};
 ghost use Rattle.wasm_validator_states.specs.OrderRefusals.{TellsWithin, TellsReading, TellsOrder, TellsTagSection, TellsStart, TellsDataCount, header_told, end_order_told};
 ghost use Rattle.wasm_validator_states.specs.WasmValidatorSections.SectionFaults.{OfContent, StandsBetween, TellsTypes, TellsImports, TellsExports, TellsFunctions, TellsTables, TellsMemories, TellsGlobals, TellsElements, TellsData};
 ghost use Rattle.wasm_validator_states.specs.States.{after_version, after_section, section_refused_at, after_start, after_data_count, after_code_start, body_at, after_body, after_end};
-ghost use Rattle.wasm_validator_states.specs.Views.{open_of, read_of, ended_spaces, stage_of, order_at, end_order_at, body_order_at, state_kept};
 ghost use Rattle.wasm_validator_modules.specs.Views.{is_module};
 
 use bitflags::Flags;
@@ -327,8 +320,8 @@ impl<A: Allocator + Copy> Validator<A> {
     ///
     /// Refused, at the section's start, where no module is being read or its code has started,
     /// which changes nothing. In a module refused, at the section's start, where a module would
-    /// have too many imports; at the first import that can't be read or breaks a rule; and where
-    /// memory is. The validator has then failed.
+    /// have too many imports, by its count of entries; at the first import that can't be read or
+    /// breaks a rule; and where memory is. The validator has then failed.
     pub fn import_section<'a>(
         &mut self,
         section: &SectionLimited<'a, Import<'a>, A>,

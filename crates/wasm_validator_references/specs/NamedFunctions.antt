@@ -27,7 +27,7 @@ NumbersNameNoFunctions R =
 -- name are those that count as referenced. Sections may come in any order and any number.
 abbrev pub PiecesNameWhatIsReferenced : Type 0
 PiecesNameWhatIsReferenced =
-    (F : Features) (C : IndexSpaces) (n : Numbering C.types) (parts : Parts) (pieces : List Piece) → HasParts expression_at pieces parts
+    (F : Features) (C : IndexSpaces) (n : Numbering C.types) (parts : Parts) (pieces : List Piece) → HasParts F.compact_imports expression_at pieces parts
     → All (IsValidData F C) parts.segments
     → HasTypedConstants nat_eq F (context_of C n parts) (imported_globals parts) (number_at n) parts
     → (i : ℕ) → among i (flat_map piece_names pieces) ≡ among i (referenced named parts)

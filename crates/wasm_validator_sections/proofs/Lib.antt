@@ -14,3 +14,5 @@ pub mod Forms
 pub mod ItemReads
 pub mod SectionEntries
 pub mod GroupGrowth
+pub mod ImportEntries
+pub mod EntryTurns

@@ -2,13 +2,15 @@
 use Rattle.std.specs.Prelude.{ℕ, ◌==◌, if◌then◌else◌, List, length, Option, Some, None}
 use Rattle.std.specs.Option.{option_and_then}
 use Rattle.wasm_spec.specs.Values.{u32_at}
-use Rattle.wasm_spec.specs.BinaryModules.{import_at, export_at}
+use Rattle.wasm_spec.specs.BinaryModules.{Import, import_at, entry_at, export_at}
 use Rattle.wasm_spec.specs.BinaryTypes.{rec_at, memory_at, tag_at}
 use Rattle.wasm_spec.specs.BinarySections.{table_entry_at, global_entry_at, element_at, data_at}
 use Rattle.wasm_spec.specs.Features.{Features}
 use Rattle.wasm_spec_rules.specs.FeatureFlags.{features_of}
 use Rattle.wasm_spec_rules.specs.Limits.{most_tables, most_memories}
+use Rattle.wasm_spec_rules.specs.Sections.{each}
 use Rattle.wasm_readers.specs.WrittenIndices.{written}
+use Rattle.wasm_readers_types.specs.WasmReadersValues.declared.indices.UnpackedIndex.{UnpackedIndex}
 use Rattle.wasm_readers_errors.specs.WasmReadersFeatures.declared.features.WasmFeatures.{WasmFeatures}
 use Rattle.wasm_validator_types.specs.Spaces.{Spaces}
 use Rattle.wasm_validator_items.specs.WasmValidatorCore.declared.limits.TheConstants.{MAX_TYPES, MAX_IMPORTS, MAX_FUNCTIONS, MAX_GLOBALS, MAX_TAGS, MAX_EXPORTS, MAX_ELEMENT_SEGMENTS, MAX_DATA_SEGMENTS}
@@ -23,8 +25,19 @@ use Rattle.wasm_validator_sections.specs.Entries.{add_table_entry, add_global_en
 abbrev pub type_items : WasmFeatures → ℕ → List ℕ → TypesSoFar × Spaces → Option (TypesSoFar × Spaces)
 type_items features count bytes p = read_section (rec_at written) (add_group features) (length p.1.types) MAX_TYPES count bytes p
 
+-- the imports that an entry stands for, one after another
+abbrev pub add_entry : Features → TypesSoFar → Spaces → List (Import UnpackedIndex) → Option Spaces
+add_entry F us s is = each (add_import F us) s is
+
+-- entries that are one import each, and entries that may be several: their count is asked for, and not that of imports
+abbrev pub single_imports : Features → TypesSoFar → ℕ → List ℕ → Spaces → Option Spaces
+single_imports F us count bytes s = read_section (import_at written) (add_import F us) (length s.imports) MAX_IMPORTS count bytes s
+
+abbrev pub entry_imports : Features → TypesSoFar → ℕ → List ℕ → Spaces → Option Spaces
+entry_imports F us count bytes s = read_section (entry_at written) (add_entry F us) (length s.imports) MAX_IMPORTS count bytes s
+
 abbrev pub import_items : Features → TypesSoFar → ℕ → List ℕ → Spaces → Option Spaces
-import_items F us count bytes s = read_section (import_at written) (add_import F us) (length s.imports) MAX_IMPORTS count bytes s
+import_items F us count bytes s = if F.compact_imports then entry_imports F us count bytes s else single_imports F us count bytes s
 
 abbrev pub function_items : TypesSoFar → ℕ → List ℕ → Spaces → Option Spaces
 function_items us count bytes s = read_section u32_at (add_function us) (length s.functions) MAX_FUNCTIONS count bytes s

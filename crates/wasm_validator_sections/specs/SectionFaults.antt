@@ -1,18 +1,15 @@
 -- What is told of a section that is refused: the first thing in it that is wrong, and where that stands. Core
 -- Specification 3.0, Binary Format, Modules, and Validation, Modules.
-use Rattle.std.specs.Prelude.{ℕ, zero, suc, ◌≡◌, ◌≤◌, ◌+◌, ◌-◌, ◌⊎◌, nat_le, Bool, true, false, List, length, Option, Some, None, IsTrue, ⊤}
+use Rattle.std.specs.Prelude.{ℕ, ◌≡◌, ◌≤◌, ◌⊎◌, List, [], ◌∷◌, length, Option, Some, None, IsTrue, ⊤}
 use Rattle.std.specs.String.{string_bytes}
 use Rattle.wasm_spec.specs.Values.{u32_at}
-use Rattle.wasm_spec.specs.BinaryModules.{Import, Export, import_at, export_at}
+use Rattle.wasm_spec.specs.BinaryModules.{Import, Export, import_at, entry_at, export_at}
 use Rattle.wasm_spec.specs.Syntax.{Memory, Rec}
 use Rattle.wasm_spec.specs.BinaryTypes.{rec_at, memory_at, tag_at}
 use Rattle.wasm_spec_rules.specs.FeatureFlags.{features_of}
 use Rattle.wasm_spec_rules.specs.Limits.{most_tables, most_memories}
-use Rattle.wasm_readers_bytes.specs.Reader.{IsMalformed}
-use Rattle.wasm_readers_errors.specs.Refusals.{plain}
 use Rattle.wasm_readers_errors.specs.declared.error.Counted.{Counted}
 use Rattle.wasm_readers_errors.specs.declared.error.Counted.TheVariants as counted
-use Rattle.wasm_readers_errors.specs.declared.error.Fault.TheVariants as fault
 use Rattle.wasm_readers_errors.specs.declared.error.Refusal.{Refusal}
 use Rattle.wasm_readers_errors.specs.WasmReadersFeatures.declared.features.WasmFeatures.{WasmFeatures}
 use Rattle.wasm_readers_types.specs.SeenExterns.{kind_of}
@@ -31,6 +28,7 @@ use Rattle.wasm_validator_items.specs.WasmValidatorCore.Answers.{TypesSoFar, IsN
 use Rattle.wasm_validator_items.specs.WasmValidatorCore.Errors.{IsAt, IfContent}
 use Rattle.wasm_validator_items.specs.WasmValidatorCore.Items.{add_import, add_function, add_memory, add_tag, add_export, exported_entity}
 use Rattle.wasm_validator_items.specs.WasmValidatorCore.Machine.{add_group}
+use Rattle.wasm_validator_sections.specs.Machine.{add_entry}
 use Rattle.wasm_validator_items.specs.WasmValidatorCore.AddedItemRefusals.{told_of_import, told_of_added_function, told_of_added_memory, told_of_added_tag, ToldOfAddedGroup, told_of_export}
 pub use Rattle.wasm_validator_items.specs.SectionRefusals.{IsNone, Either, Read, Added, OfContent, TellsFormat, TellsAt, TellsEach, TellsCount}
 pub use Rattle.wasm_validator_items.specs.Answers.{StandsBetween}
@@ -53,6 +51,13 @@ module _ {A : Type 0} where
   module _ (features : WasmFeatures) (us : TypesSoFar) where
     abbrev pub tells_import : ℕ → Spaces → Import UnpackedIndex → Error A → Type 0
     tells_import place s i e = TellsAt place (told_of_import features place us s i) e
+
+    -- one of the imports of an entry, behind those before it; it stands where the entry does, or further on
+    abbrev pub tells_entry : ℕ → Spaces → List (Import UnpackedIndex) → Error A → Type 0
+    tells_entry place s [] e = ⊥
+    tells_entry place s (i ∷ is) e =
+        (IsNone (add_import (features_of features) us s i) × ((at : ℕ) × (place ≤ at) × tells_import at s i e))
+        ⊎ Added (λ t. tells_entry place t is e) (add_import (features_of features) us s i)
 
     abbrev pub tells_tag : ℕ → Spaces → ℕ → Error A → Type 0
     tells_tag place s x e = TellsAt place (told_of_added_tag features place us s x) e
@@ -83,8 +88,15 @@ module _ {A : Type 0} where
     abbrev pub TellsTypes : Type 0
     TellsTypes = TellsSection section e (rec_at written) (add_group features) (IsNowhere (HasValidTypes features)) (tells_group features) counted.Types (length m.types) MAX_TYPES (us, m)
 
+    abbrev pub TellsSingleImports : Type 0
+    TellsSingleImports = TellsSection section e (import_at written) (add_import (features_of features) us) IsNone (tells_import features us) counted.Imports (length m.imports) MAX_IMPORTS m
+
+    -- where an entry may stand for several, entries are counted
+    abbrev pub TellsEntries : Type 0
+    TellsEntries = TellsSection section e (entry_at written) (add_entry (features_of features) us) IsNone (tells_entry features us) counted.Imports (length m.imports) MAX_IMPORTS m
+
     abbrev pub TellsImports : Type 0
-    TellsImports = TellsSection section e (import_at written) (add_import (features_of features) us) IsNone (tells_import features us) counted.Imports (length m.imports) MAX_IMPORTS m
+    TellsImports = Either (features_of features).compact_imports TellsEntries TellsSingleImports
 
     abbrev pub TellsTags : Type 0
     TellsTags = TellsSection section e tag_at (add_tag (features_of features) us) IsNone (tells_tag features us) counted.Tags (length m.tags) MAX_TAGS m

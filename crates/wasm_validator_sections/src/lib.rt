@@ -4,6 +4,7 @@
 
 mod code;
 pub mod code_state;
+mod entry_items;
 mod module_sections;
 pub mod module_state;
 mod plain_items;

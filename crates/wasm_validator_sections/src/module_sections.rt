@@ -10,9 +10,10 @@ ghost use Rattle.wasm_validator_items.specs.WasmValidatorCore.WasmValidatorCanon
 ghost use Rattle.wasm_validator_items.specs.WasmValidatorCore.Answers.{Adds, AddsWhere, HasValidTypes};
 ghost use Rattle.wasm_validator_items.specs.WasmValidatorCore.OpenLists.{IsOpenFor, AreHeld, AreIdsOf};
 ghost use Rattle.wasm_validator_items.specs.WasmValidatorCoreResources.ById.{AreFirstByIds};
-ghost use Rattle.wasm_validator_sections.specs.Machine.{type_items, import_items, function_items, table_items, memory_items, tag_items, global_items, export_items, element_items, data_items};
-ghost use Rattle.wasm_validator_sections.specs.SectionFaults.{OfContent, StandsBetween, TellsTypes, TellsImports, TellsFunctions, TellsTables, TellsMemories, TellsTags, TellsGlobals, TellsExports, TellsElements, TellsData};
+ghost use Rattle.wasm_validator_sections.specs.Machine.{type_items, single_imports, entry_imports, import_items, function_items, table_items, memory_items, tag_items, global_items, export_items, element_items, data_items};
+ghost use Rattle.wasm_validator_sections.specs.SectionFaults.{OfContent, StandsBetween, TellsTypes, TellsSingleImports, TellsEntries, TellsImports, TellsFunctions, TellsTables, TellsMemories, TellsTags, TellsGlobals, TellsExports, TellsElements, TellsData};
 
+use crate::entry_items::EntryItems;
 use crate::plain_items::{
     ExportItems, FunctionItems, GroupItems, ImportItems, MemoryItems, TagItems,
 };
@@ -56,8 +57,57 @@ pub fn add_types<'a, A: Allocator + Copy>(
     add_items(&mut kind, section)
 }
 
-/// Adds the imports of an import section.
+/// Adds the imports of an import section, one for each entry.
 #[tactic(auto, using(crate::proofs::Cited::adds_items))]
+fn add_single_imports<'a, A: Allocator + Copy>(
+    features: WasmFeatures,
+    list: &TypeList<A>,
+    opened: &mut Module<A>,
+    section: &SectionLimited<'a, Import<'a>, A>,
+) -> Result<(), Error<A>>
+    requires { AreHeld list.now opened.old.types }
+    ensures added { Adds result (single_imports (features_of features) (types_of_list list.now)
+        (count_of section.now) (bytes_of section.now) opened.old) opened.new }
+    ensures types { opened.new.types ≡ opened.old.types }
+    ensures place { IfErr result (StandsBetween (section_start section.now)
+        (section_end section.now)) }
+    ensures told { IfErr result (OfContent (TellsSingleImports features section.now
+        (types_of_list list.now) opened.old)) }
+{
+    let mut kind = ImportItems {
+        features,
+        list,
+        opened,
+    };
+    add_items(&mut kind, section)
+}
+
+/// Adds the imports of an import section whose entries may stand for several.
+#[tactic(auto, using(crate::proofs::Cited::adds_items))]
+fn add_entries<'a, A: Allocator + Copy>(
+    features: WasmFeatures,
+    list: &TypeList<A>,
+    opened: &mut Module<A>,
+    section: &SectionLimited<'a, Import<'a>, A>,
+) -> Result<(), Error<A>>
+    requires { AreHeld list.now opened.old.types }
+    ensures added { Adds result (entry_imports (features_of features) (types_of_list list.now)
+        (count_of section.now) (bytes_of section.now) opened.old) opened.new }
+    ensures types { opened.new.types ≡ opened.old.types }
+    ensures place { IfErr result (StandsBetween (section_start section.now)
+        (section_end section.now)) }
+    ensures told { IfErr result (OfContent (TellsEntries features section.now
+        (types_of_list list.now) opened.old)) }
+{
+    let mut kind = EntryItems {
+        features,
+        list,
+        opened,
+    };
+    add_items(&mut kind, section)
+}
+
+/// Adds the imports of an import section. Where `COMPACT_IMPORTS` is off, each entry is one.
 pub fn add_imports<'a, A: Allocator + Copy>(
     features: WasmFeatures,
     list: &TypeList<A>,
@@ -73,12 +123,11 @@ pub fn add_imports<'a, A: Allocator + Copy>(
     ensures told { IfErr result (OfContent (TellsImports features section.now
         (types_of_list list.now) opened.old)) }
 {
-    let mut kind = ImportItems {
-        features,
-        list,
-        opened,
-    };
-    add_items(&mut kind, section)
+    if features.compact_imports() {
+        add_entries(features, list, opened, section)
+    } else {
+        add_single_imports(features, list, opened, section)
+    }
 }
 
 /// Adds the functions of a function section.

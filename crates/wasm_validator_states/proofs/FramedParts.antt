@@ -1,14 +1,15 @@
 -- The parts of a module are those of the pieces between its header and its end.
-use Rattle.std.proofs.Common.{◌≡◌, refl, sym, ap, ◌∙◌, ℕ, List, [], ◌∷◌, ◌++◌}
+use Rattle.std.proofs.Common.{◌≡◌, refl, sym, ap, ◌∙◌, ℕ, Bool, true, false, List, [], ◌∷◌, ◌++◌}
+use Rattle.std.specs.Option.{option_map}
 use Rattle.std.specs.List.{flat_map, All}
 use Rattle.std.proofs.lemmas.List.Elements.{All-nil, All-cons, All-head, All-tail}
 use Rattle.wasm_spec.specs.Values.{u32_at}
 use Rattle.wasm_spec.specs.BinaryTypes.{rec_at, memory_at, tag_at}
-use Rattle.wasm_spec.specs.BinaryModules.{import_at, export_at}
+use Rattle.wasm_spec.specs.BinaryModules.{import_at, entry_at, export_at}
 use Rattle.wasm_spec.specs.BinarySections.{table_entry_at, global_entry_at, element_at, data_at}
 use Rattle.wasm_spec.specs.Features.{Features}
 use Rattle.wasm_spec.specs.Framing.{Piece, Version, End}
-use Rattle.wasm_spec_rules.specs.Parts.{Parts, HasParts, index, starts_of, data_counts_of, bodies_of}
+use Rattle.wasm_spec_rules.specs.Parts.{Parts, HasParts, imports_of, in_order, index, starts_of, data_counts_of, bodies_of}
 use Rattle.wasm_spec_rules.specs.Modules.{IsAllowedPiece}
 use Rattle.wasm_spec_validity.specs.Expressions.{expression_at}
 use Rattle.wasm_validator_states.proofs.ModuleRun.{framed_items}
@@ -30,11 +31,16 @@ before_end : {V : Type 0} (f : Piece → List V) → f End ≡ [] → (ps : List
 before_end f ends [] = ap (λ xs. xs ++ []) ends
 before_end f ends (p ∷ ps) = ap (λ xs. f p ++ xs) (before_end f ends ps)
 
-module _ (number kind : ℕ) (ps : List Piece) (parts : Parts) where
-  pub whole_has : HasParts expression_at ps parts → HasParts expression_at (whole number kind ps) parts
+-- the header and the end have no imports
+framed_imports : (compact : Bool) (number kind : ℕ) (ps : List Piece) → imports_of compact (whole number kind ps) ≡ imports_of compact ps
+framed_imports true number kind ps = ap (option_map in_order) (framed_items 2 (entry_at index) number kind ps)
+framed_imports false number kind ps = framed_items 2 (import_at index) number kind ps
+
+module _ (compact : Bool) (number kind : ℕ) (ps : List Piece) (parts : Parts) where
+  pub whole_has : HasParts compact expression_at ps parts → HasParts compact expression_at (whole number kind ps) parts
   whole_has h = record {
     groups = framed_items 1 (rec_at index) number kind ps ∙ h.groups;
-    imports = framed_items 2 (import_at index) number kind ps ∙ h.imports;
+    imports = framed_imports compact number kind ps ∙ h.imports;
     functions = framed_items 3 u32_at number kind ps ∙ h.functions;
     tables = framed_items 4 (table_entry_at expression_at index) number kind ps ∙ h.tables;
     memories = framed_items 5 memory_at number kind ps ∙ h.memories;
@@ -48,10 +54,10 @@ module _ (number kind : ℕ) (ps : List Piece) (parts : Parts) where
     tags = framed_items 13 tag_at number kind ps ∙ h.tags;
   }
 
-  pub inside_has : HasParts expression_at (whole number kind ps) parts → HasParts expression_at ps parts
+  pub inside_has : HasParts compact expression_at (whole number kind ps) parts → HasParts compact expression_at ps parts
   inside_has h = record {
     groups = sym (framed_items 1 (rec_at index) number kind ps) ∙ h.groups;
-    imports = sym (framed_items 2 (import_at index) number kind ps) ∙ h.imports;
+    imports = sym (framed_imports compact number kind ps) ∙ h.imports;
     functions = sym (framed_items 3 u32_at number kind ps) ∙ h.functions;
     tables = sym (framed_items 4 (table_entry_at expression_at index) number kind ps) ∙ h.tables;
     memories = sym (framed_items 5 memory_at number kind ps) ∙ h.memories;

@@ -4,13 +4,12 @@ use Rattle.std.specs.Option.{option_and_then}
 use Rattle.std.proofs.lemmas.Bool.{leb-true, le-leb}
 use Rattle.std.proofs.lemmas.List.{length-map}
 use Rattle.std.proofs.lemmas.Option.{same_Some}
-use Rattle.wasm_spec.specs.Values.{items_at}
-use Rattle.wasm_spec.specs.BinaryModules.{Import, import_at, map_import}
+use Rattle.wasm_spec.specs.BinaryModules.{Import, map_import}
 use Rattle.wasm_spec.specs.Features.{Features, canonical}
 use Rattle.wasm_spec.specs.Trees.{DefType}
 use Rattle.wasm_spec_rules.specs.FeatureFlags.{features_of}
 use Rattle.wasm_spec_rules.specs.IndexSpaces.{functions_in, tables_in, memories_in, globals_in, tags_in}
-use Rattle.wasm_spec_rules.specs.Parts.{index}
+use Rattle.wasm_spec_rules.specs.Parts.{index, section_imports}
 use Rattle.wasm_spec_rules.specs.Sections.{each}
 use Rattle.wasm_spec_rules.specs.Limits.{most_imports}
 use Rattle.wasm_spec_rules.proofs.Tests.{then_some, guarded}
@@ -23,11 +22,10 @@ use Rattle.wasm_validator_sections.specs.WasmLawsCore.Imports.{KeepsLimits, Fits
 use Rattle.wasm_validator_sections.specs.WasmLawsCore.ModuleParts.{listed_table, listed_global}
 use Rattle.wasm_validator_sections.proofs.WasmLawsCore.AddedImports.{one_import_is_added}
 use Rattle.wasm_validator_sections.proofs.WasmLawsCore.AddedItems.{each_changed}
-use Rattle.wasm_validator_sections.specs.Sections.{read_section}
+use Rattle.wasm_validator_sections.specs.Machine.{import_items}
 use Rattle.wasm_validator_states.specs.SectionLaws.{AddsEach, ImportsAdd}
-use Rattle.wasm_validator_sections.proofs.SectionEntries.{limited, section_entries}
+use Rattle.wasm_validator_sections.proofs.ImportEntries.{counted_imports, section_of_imports}
 use Rattle.wasm_validator_states.proofs.SectionLaws.{moved_from, moved_to, at_module}
-use Rattle.wasm_spec.proofs.LawSet.{import_renames}
 
 module _ (F : Features) (us : TypesSoFar) (ids : List ℕ) (types : List DefType) (stand : Stand (canonical F) us ids types) where
   abbrev next : Spaces → Import ℕ → Spaces
@@ -76,25 +74,25 @@ module _ (F : Features) (us : TypesSoFar) (ids : List ℕ) (types : List DefType
 pub imports_add : ImportsAdd
 imports_add old new us m n types count bytes r few =
     let F = features_of old.features in
-    let reads = import_at index in
-    let section = read_section (import_at written) (add_import F us) (length m.imports) most_imports count bytes m in
-    let entries = section_entries (add_import F us) (map_import written) (length m.imports) most_imports m reads (import_at written) (import_renames written index) count bytes in (
+    let section = import_items F us count bytes m in
+    let read = section_imports index F.compact_imports count bytes in
+    let imports = section_of_imports F us count bytes m in (
       λ e. let a = moved_from old new us n section (sym (at_module old us m n 2 count bytes r.stage) ∙ e) in
-          let b = then_some (limited (add_import F us) (map_import written) (length m.imports) most_imports m) (items_at reads count bytes) a.0 (sym entries ∙ a.1) in
-          let c = guarded (leb (length m.imports + length b.0) most_imports) (each (add_import F us) m (map (map_import written) b.0)) a.0 b.2 in
+          let b = then_some (counted_imports F us count m) read a.0 (sym imports ∙ a.1) in
+          let c = guarded (leb (length m.imports + count) most_imports) (each (add_import F us) m (map (map_import written) b.0)) a.0 b.2 in
           record {
             items = b.0;
             read = b.1;
-            few = leb-true (length m.imports + length b.0) most_imports c.0;
+            few = leb-true (length m.imports + count) most_imports c.0;
             lists = a.0;
             added = each_fits F us m.types types r.stand b.0 m a.0 refl few (sym (each_changed (add_import F us) (map_import written) m b.0) ∙ c.1);
             after = a.2;
           },
       λ h. at_module old us m n 2 count bytes r.stage
           ∙ moved_to old new us n section h.lists
-          (entries
-          ∙ ap (option_and_then (limited (add_import F us) (map_import written) (length m.imports) most_imports m)) h.read
-          ∙ ap (λ b. cond b (each (add_import F us) m (map (map_import written) h.items)) None) (le-leb (length m.imports + length h.items) most_imports h.few)
+          (imports
+          ∙ ap (option_and_then (counted_imports F us count m)) h.read
+          ∙ ap (λ b. cond b (each (add_import F us) m (map (map_import written) h.items)) None) (le-leb (length m.imports + count) most_imports h.few)
           ∙ each_changed (add_import F us) (map_import written) m h.items
           ∙ fits_each F us m.types types r.stand h.items m h.lists refl few h.added)
           h.after,

@@ -1,15 +1,16 @@
 -- The machine over the pieces between the header and the end: section by section, in the order of the sections.
-use Rattle.std.proofs.Common.{◌≡◌, ◌≢◌, refl, sym, ap, subst, ◌∙◌, ◌⊎◌, inl, inr, ℕ, Bool, true, false, ◌==◌, ◌||◌, cond, eqb, List, [], ◌∷◌, ◌++◌, Option, Some, None, append-nil}
+use Rattle.std.proofs.Common.{◌≡◌, ◌≢◌, refl, sym, ap, subst, ◌∙◌, ◌⊎◌, inl, inr, ℕ, ◌+◌, ◌≤◌, Bool, true, false, ◌==◌, ◌||◌, cond, eqb, leb, List, [], ◌∷◌, ◌++◌, length, Option, Some, None, append-nil, arith}
 use Rattle.std.specs.Option.{option_map, option_and_then}
 use Rattle.std.specs.Prelude.{IsTrue, nat_le}
 use Rattle.std.specs.List.{list_all, All, flat_map}
 use Rattle.std.proofs.lemmas.List.Elements.{All-nil, All-cons}
-use Rattle.std.proofs.lemmas.Bool.{eqb-true, eqb-false, eq-eqb, ne_eqb}
+use Rattle.std.proofs.lemmas.Bool.{leb-true, eqb-true, eqb-false, eq-eqb, ne_eqb}
 use Rattle.wasm_spec.specs.Values.{items_at}
 use Rattle.wasm_spec.specs.Framing.{Piece, Version, Custom, Counted, Start, DataCount, CodeStart, CodeEntry, Unknown, End, place}
 use Rattle.wasm_spec_rules.specs.Sections.{each, rank, rank_of_section, ranks, at_rank, by_rank}
 use Rattle.wasm_spec_rules.specs.Parts.{items_of, all_items, starts_of, data_counts_of}
 use Rattle.wasm_spec_rules.specs.FeatureFlags.{features_of}
+use Rattle.wasm_spec_rules.specs.Limits.{most_imports}
 use Rattle.wasm_spec_rules.specs.Modules.{IsAllowedPiece}
 use Rattle.wasm_spec.specs.Features.{Features}
 use Rattle.wasm_spec_rules.proofs.SectionRanks.{Follows, AreRanks, LeavesFree, IsOne, one_at_most, by_ranks}
@@ -20,7 +21,7 @@ use Rattle.wasm_validator_types.specs.Spaces.{Spaces}
 use Rattle.wasm_validator_sections.specs.WasmValidatorCore.declared.limits.TheConstants.{MAX_DATA_SEGMENTS}
 use Rattle.wasm_validator_sections.specs.WasmValidatorCore.Items.{is_data_count}
 use Rattle.wasm_validator_sections.specs.WasmValidatorCore.Answers.{TypesSoFar, HasValidTypes}
-use Rattle.wasm_validator_sections.specs.Machine.{tag_items, section_items, start_item, data_count_item, beside}
+use Rattle.wasm_validator_sections.specs.Machine.{tag_items, import_items, section_items, start_item, data_count_item, beside}
 use Rattle.wasm_validator_canonical.proofs.CanonicalTypes.{and_left, and_right}
 use Rattle.std.proofs.lemmas.Option.{same_Some}
 use Rattle.wasm_validator_states.proofs.ValidTypes.{beside_back, section_back}
@@ -150,16 +151,25 @@ step_back features p q End e v = absurd cc
 tags_allowed : (F : Features) (us : TypesSoFar) (n : ℕ) (bytes : List ℕ) (s t : Spaces) → tag_items F us n bytes s ≡ Some t → IsTrue F.exceptions
 tags_allowed F us n bytes s t e = (guarded F.exceptions _ t e).0
 
+-- an import section has few entries, be they one import each or not
+few_either : {S : Type 0} (b c : Bool) (one other : Option S) (t : S) → cond b (cond c one None) (cond c other None) ≡ Some t → c ≡ true
+few_either true c one other t e = (guarded c one t e).0
+few_either false c one other t e = (guarded c other t e).0
+
+imports_allowed : (F : Features) (us : TypesSoFar) (n : ℕ) (bytes : List ℕ) (s t : Spaces) → import_items F us n bytes s ≡ Some t → n ≤ most_imports
+imports_allowed F us n bytes s t e =
+    let few = leb-true (length s.imports + n) most_imports (few_either F.compact_imports (leb (length s.imports + n) most_imports) _ _ t e) in
+    omega (arith, few)
+
 form_accepted : (features : WasmFeatures) (p q : TypesSoFar × Spaces) (x : Piece) → PartForm x → step features p x ≡ Some q → IsAllowedPiece (features_of features) x
 form_accepted features p q x custom e = tt
-form_accepted features p q x types e = λ h. absurd cc
-form_accepted features p q x imports e = λ h. absurd cc
-form_accepted features p q x functions e = λ h. absurd cc
-form_accepted features p q x tables e = λ h. absurd cc
-form_accepted features p q x memories e = λ h. absurd cc
-form_accepted features p q x globals e = λ h. absurd cc
-form_accepted features p q x elements e = λ h. absurd cc
-form_accepted features p q x segments e = λ h. absurd cc
+form_accepted features p q x types e = (λ h. absurd cc, λ h. absurd cc)
+form_accepted features p q x functions e = (λ h. absurd cc, λ h. absurd cc)
+form_accepted features p q x tables e = (λ h. absurd cc, λ h. absurd cc)
+form_accepted features p q x memories e = (λ h. absurd cc, λ h. absurd cc)
+form_accepted features p q x globals e = (λ h. absurd cc, λ h. absurd cc)
+form_accepted features p q x elements e = (λ h. absurd cc, λ h. absurd cc)
+form_accepted features p q x segments e = (λ h. absurd cc, λ h. absurd cc)
 form_accepted features p q x start e = tt
 form_accepted features p q x code_start e = tt
 form_accepted features p q x body e = tt
@@ -167,10 +177,13 @@ form_accepted features p q x (data_count {n}) e =
     let a = then_some (λ (s : Spaces). Some (p.0, s)) (data_count_item (features_of features) p.1 n) q e in
     let b = guarded (is_data_count (features_of features) n) (Some p.1) a.0 a.1 in
     and_left (features_of features).bulk_memory (nat_le n MAX_DATA_SEGMENTS) b.0
-form_accepted features p q x exports e = λ h. absurd cc
-form_accepted features p q x (tags {n} {bytes}) e = λ h.
+form_accepted features p q x exports e = (λ h. absurd cc, λ h. absurd cc)
+form_accepted features p q x (tags {n} {bytes}) e =
     let a = then_some (λ (s : Spaces). Some (p.0, s)) (tag_items (features_of features) p.0 n bytes p.1) q e in
-    tags_allowed (features_of features) p.0 n bytes p.1 a.0 a.1
+    (λ h. tags_allowed (features_of features) p.0 n bytes p.1 a.0 a.1, λ h. absurd cc)
+form_accepted features p q x (imports {n} {bytes}) e =
+    let a = then_some (λ (s : Spaces). Some (p.0, s)) (import_items (features_of features) p.0 n bytes p.1) q e in
+    (λ h. absurd cc, λ h. imports_allowed (features_of features) p.0 n bytes p.1 a.0 a.1)
 
 pub run_allowed : (features : WasmFeatures) (ps : List Piece) (p q : TypesSoFar × Spaces) → AreParts ps → each (step features) p ps ≡ Some q → All (IsAllowedPiece (features_of features)) ps
 run_allowed features [] p q a e = All-nil (IsAllowedPiece (features_of features))

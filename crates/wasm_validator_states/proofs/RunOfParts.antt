@@ -1,7 +1,7 @@
 -- The machine's run over the pieces between the header and the end, by the items of its sections.
-use Rattle.std.proofs.Common.{◌≡◌, refl, sym, ap, subst, ◌∙◌, ℕ, ◌+◌, ◌≤◌, true, cond, eqb, leb, List, [], ◌∷◌, ◌++◌, map, length, append-nil, Option, Some, None, arith, inl, inr}
+use Rattle.std.proofs.Common.{◌≡◌, refl, sym, ap, subst, ◌∙◌, ℕ, ◌+◌, ◌≤◌, Bool, true, false, cond, eqb, leb, List, [], ◌∷◌, ◌++◌, map, length, append-nil, Option, Some, None, arith, inl, inr}
 use Rattle.std.specs.Prelude.{◌↔◌}
-use Rattle.std.specs.Option.{option_and_then}
+use Rattle.std.specs.Option.{option_map, option_and_then}
 use Rattle.std.specs.List.{All, flat_map}
 use Rattle.std.proofs.lemmas.Bool.{leb-true, le-leb, and_from}
 use Rattle.wasm_validator_canonical.proofs.CanonicalTypes.{and_right}
@@ -10,22 +10,22 @@ use Rattle.std.proofs.lemmas.List.{length-append, length-map}
 use Rattle.std.proofs.lemmas.List.Elements.{All-nil, All-cons, All-head, All-tail}
 use Rattle.wasm_spec.specs.Syntax.{Rec, map_rec}
 use Rattle.wasm_spec.specs.BinarySections.{table_entry_at, global_entry_at, element_at, data_at}
-use Rattle.wasm_spec.specs.Values.{u32_at}
+use Rattle.wasm_spec.specs.Values.{u32_at, items_at}
 use Rattle.wasm_spec.specs.BinaryTypes.{rec_at, memory_at, tag_at}
-use Rattle.wasm_spec.specs.BinaryModules.{import_at, export_at, map_import}
+use Rattle.wasm_spec.specs.BinaryModules.{Import, import_at, entry_at, export_at, map_import, map_entry}
 use Rattle.wasm_spec.specs.Features.{Features, canonical}
 use Rattle.wasm_spec.specs.TypeLaws.{HasNoRepetition}
-use Rattle.wasm_spec.proofs.LawSet.{rec_renames, import_renames}
+use Rattle.wasm_spec.proofs.LawSet.{rec_renames, import_renames, entry_renames}
 use Rattle.wasm_spec.specs.Framing.{Piece, Counted, Start, DataCount, place}
 use Rattle.wasm_spec_rules.specs.FeatureFlags.{features_of}
-use Rattle.wasm_spec_rules.specs.Limits.{most_tables, most_memories}
+use Rattle.wasm_spec_rules.specs.Limits.{most_imports, most_tables, most_memories}
 use Rattle.wasm_spec_rules.specs.Sections.{each, rank, ranks, at_rank, by_rank}
-use Rattle.wasm_spec_rules.specs.Parts.{Parts, HasParts, index, all_items, starts_of, data_counts_of, bodies_of}
+use Rattle.wasm_spec_rules.specs.Parts.{Parts, HasParts, index, in_order, imports_of, all_items, starts_of, data_counts_of, bodies_of}
 use Rattle.wasm_spec_rules.specs.IndexSpaces.{index_spaces, imported, functions_in, tables_in, memories_in, globals_in, tags_in, table_type, global_type}
 use Rattle.wasm_spec_rules.specs.LinkRules.{IsValidStart}
 use Rattle.wasm_spec_rules.specs.Modules.{IsAllowedPiece}
 use Rattle.wasm_spec_rules.proofs.SectionRanks.{Follows}
-use Rattle.wasm_spec_rules.proofs.Tests.{then_some, guarded, truth, when, unless}
+use Rattle.wasm_spec_rules.proofs.Tests.{then_some, map_some, guarded, truth, when, unless}
 use Rattle.wasm_readers.specs.WrittenIndices.{written}
 use Rattle.wasm_readers_errors.specs.WasmReadersFeatures.declared.features.WasmFeatures.{WasmFeatures}
 use Rattle.wasm_validator_type_groups.specs.Elements.{numbers_from}
@@ -45,6 +45,9 @@ use Rattle.wasm_spec_validity.proofs.FirstAppearances.{types_are_numbered}
 use Rattle.wasm_validator_sections.proofs.WasmLawsModules.SectionTypes.{sections_give_module_types}
 use Rattle.wasm_validator_sections.specs.WasmLawsModules.Contexts.{HasOwnIds}
 use Rattle.wasm_validator_sections.specs.Sections.{read_section}
+use Rattle.wasm_validator_sections.specs.Machine.{add_entry, single_imports, entry_imports}
+use Rattle.wasm_validator_sections.proofs.ItemReads.{as_many_as_counted}
+use Rattle.wasm_validator_sections.proofs.ImportEntries.{each_entry}
 use Rattle.wasm_validator_sections.specs.Entries.{add_table_entry, add_global_entry, add_element, add_data}
 use Rattle.wasm_validator_sections.specs.WasmLawsModules.Maps.{map_table_entry, map_global_entry, map_element}
 use Rattle.wasm_validator_sections.specs.WasmLawsModules.OnePassSections.{EntriesAreRenamed}
@@ -58,12 +61,12 @@ use Rattle.wasm_validator_states.proofs.ModuleRun.{step, step_back, AreParts, by
 use Rattle.wasm_validator_sections.proofs.SectionEntries.{same_item, map_same, Renames, renames_nothing}
 use Rattle.wasm_validator_states.proofs.SectionLists.{ReadAdded, step_read, read_step, each_beside, beside_each, section_beside}
 use Rattle.wasm_validator_states.proofs.UsedLaws.{UsedLaws}
-use Rattle.wasm_validator_states.proofs.ValidRules.{AreSmall, KeepsOthers}
+use Rattle.wasm_validator_states.proofs.ValidRules.{AreSmall, KeepsOthers, few_by_size}
 
 -- What there is to know of pieces that the machine accepts: their parts, which keep to the limits, and are valid and typed.
 pub record Accepted (features : WasmFeatures) (T : TypesSoFar) (ps : List Piece) : Type 0 where
   pub parts : Parts
-  pub has : HasParts expression_at ps parts
+  pub has : HasParts (features_of features).compact_imports expression_at ps parts
   pub types : TypesAdded features T parts.groups
   pub valid : AreValidModuleLists (features_of features) (index_spaces (type_space features T parts.groups types) parts) parts
   pub numbering : Numbering (type_space features T parts.groups types)
@@ -141,7 +144,7 @@ module _ (entries : EntriesAreRenamed) (features : WasmFeatures) (ps : List Piec
   tags_need : (n : ℕ) (bytes : List ℕ) → at_rank 6 ps ≡ Counted 13 n bytes ∷ [] → F.exceptions ≡ true
   tags_need n bytes e =
       let here = All-head (IsAllowedPiece F) (Counted 13 n bytes) [] (subst (All (IsAllowedPiece F)) e (all_ranked (IsAllowedPiece F) 6 ps allowed)) in
-      here refl
+      here.0 refl
 
   -- the groups
   read_groups : (s u : TypesSoFar × Spaces) → each (step features) s (at_rank 1 ps) ≡ Some u → ReadAdded (add_group features) (map_rec written) MAX_TYPES s (all_items 1 (rec_at index) ps) u
@@ -157,14 +160,79 @@ module _ (entries : EntriesAreRenamed) (features : WasmFeatures) (ps : List Piec
 
   -- the sections that leave the list of types
 
-  imports_are : Reads features ps 2 2 MAX_IMPORTS (λ us. add_import F us) (map_import written) (import_at index) (import_at written) (λ (s : Spaces). length s.imports)
+  -- entries that are one import each, and entries that may be several
+  singles_are : F.compact_imports ≡ false → Reads features ps 2 2 MAX_IMPORTS (λ us. add_import F us) (map_import written) (import_at index) (import_at written) (λ (s : Spaces). length s.imports)
   unfolding place
-  imports_are = record {
+  singles_are off = record {
     renames = import_renames written index;
     ranked = ranked_items 2 (import_at index) ps;
     section = section_at ps parts follows 2 ((λ h. cc), (λ h. cc), (λ h. cc), (λ h. cc)) (λ h. cc);
-    is = λ T s n bytes h. section_beside (λ us. add_import F us) (import_at written) (length s.imports) MAX_IMPORTS n bytes T s;
+    is = λ T s n bytes h. ap (λ b. beside (λ us s'. cond b (entry_imports F us n bytes s') (single_imports F us n bytes s')) (T, s)) off ∙ section_beside (λ us. add_import F us) (import_at written) (length s.imports) MAX_IMPORTS n bytes T s;
   }
+
+  entries_are : F.compact_imports ≡ true → Reads features ps 2 2 MAX_IMPORTS (λ us. add_entry F us) (map_entry written) (entry_at index) (entry_at written) (λ (s : Spaces). length s.imports)
+  unfolding place
+  entries_are on = record {
+    renames = entry_renames written index;
+    ranked = ranked_items 2 (entry_at index) ps;
+    section = section_at ps parts follows 2 ((λ h. cc), (λ h. cc), (λ h. cc), (λ h. cc)) (λ h. cc);
+    is = λ T s n bytes h. ap (λ b. beside (λ us s'. cond b (entry_imports F us n bytes s') (single_imports F us n bytes s')) (T, s)) on ∙ section_beside (λ us. add_entry F us) (entry_at written) (length s.imports) MAX_IMPORTS n bytes T s;
+  }
+
+  imports_are : (b : Bool) → F.compact_imports ≡ b → imports_of F.compact_imports ps ≡ cond b (option_map in_order (all_items 2 (entry_at index) ps)) (all_items 2 (import_at index) ps)
+  imports_are b e = ap (λ c. imports_of c ps) e
+
+  -- what the import section adds, one import after another
+  record ImportsRead (T : TypesSoFar) (s : Spaces) (u : TypesSoFar × Spaces) : Type 0 where
+    items : List (Import ℕ)
+    are : imports_of F.compact_imports ps ≡ Some items
+    after : Spaces
+    ran : each (add_import F T) s (map (map_import written) items) ≡ Some after
+    gives : (T, after) ≡ u
+
+  imports_read : (T : TypesSoFar) (s : Spaces) (p u : TypesSoFar × Spaces) → (T, s) ≡ p → each (step features) p (at_rank 2 ps) ≡ Some u → ImportsRead T s u
+  imports_read T s p u same e =
+      elim (truth F.compact_imports) [
+        | inl on ↦
+            let a = one_read (entries_are on) T s p u same e in
+            record { items = in_order a.items; are = imports_are true on ∙ ap (option_map in_order) a.are; after = a.after; ran = sym (each_entry F T s a.items) ∙ a.ran; gives = a.gives }
+        | inr off ↦
+            let a = one_read (singles_are off) T s p u same e in
+            record { items = a.items; are = imports_are false off ∙ a.are; after = a.after; ran = a.ran; gives = a.gives }
+      ]
+
+  -- the entries keep to the limit
+  entry_count : {V : Type 0} (reads : List ℕ → Option (V × List ℕ)) (es : List V) (n : ℕ) (bytes : List ℕ) → n ≤ most_imports → all_items 2 reads (Counted 2 n bytes ∷ []) ≡ Some es → length es ≤ MAX_IMPORTS
+  entry_count {V} reads es n bytes few e =
+      let a = then_some (λ (xs : List V). Some (xs ++ [])) (items_at reads n bytes) es e in
+      let many = as_many_as_counted reads n bytes a.0 a.1 in
+      let same : length es ≡ length a.0 = ap length (sym (same_Some (a.0 ++ []) es a.2) ∙ append-nil a.0) in
+      omega (arith, many, same, few)
+
+  few_entries : {V : Type 0} (reads : List ℕ → Option (V × List ℕ)) (es : List V) → SectionOf 2 (at_rank 2 ps) → all_items 2 reads ps ≡ Some es → length es ≤ MAX_IMPORTS
+  unfolding place
+  few_entries {V} reads es (inl none) e =
+      let nothing : Some [] ≡ Some es = sym (ranked_items 2 reads ps ∙ ap (all_items 2 reads) none) ∙ e in
+      let same : length {A = V} [] ≡ length es = ap length (same_Some [] es nothing) in
+      omega (arith, same)
+  few_entries reads es (inr one) e =
+      let here = All-head (IsAllowedPiece F) (Counted 2 one.count one.contents) [] (subst (All (IsAllowedPiece F)) one.is (all_ranked (IsAllowedPiece F) 2 ps allowed)) in
+      entry_count reads es one.count one.contents (here.1 refl) (sym (ranked_items 2 reads ps ∙ ap (all_items 2 reads) one.is) ∙ e)
+
+  read_imports : (T : TypesSoFar) (s : Spaces) (is : List (Import ℕ)) (t : Spaces) → s.imports ≡ [] → imports_of F.compact_imports ps ≡ Some is → each (add_import F T) s (map (map_import written) is) ≡ Some t
+      → each (step features) (T, s) (at_rank 2 ps) ≡ Some (T, t)
+  read_imports T s is t none are ran =
+      let zero = ap length none in
+      elim (truth F.compact_imports) [
+        | inl on ↦
+            let b = map_some in_order (all_items 2 (entry_at index) ps) is (sym (imports_are true on) ∙ are) in
+            let few = few_entries (entry_at index) b.0 (entries_are on).section b.1 in
+            read_one (entries_are on) T s b.0 t b.1 (omega (arith, few, zero)) (each_entry F T s b.0 ∙ ap (λ xs. each (add_import F T) s (map (map_import written) xs)) b.2 ∙ ran)
+        | inr off ↦
+            let b = sym (imports_are false off) ∙ are in
+            let few = few_entries (import_at index) is (singles_are off).section b in
+            read_one (singles_are off) T s is t b (omega (arith, few, zero)) ran
+      ]
 
   functions_are : Reads features ps 3 3 MAX_FUNCTIONS add_function same_item u32_at u32_at (λ (s : Spaces). length s.functions)
   unfolding place
@@ -400,8 +468,7 @@ module _ (laws : UsedLaws) (features : WasmFeatures) (T : TypesSoFar) (ps : List
   -- The lists behind the types, one after another; and those up to the exports, where the start function comes.
   record Added (us : TypesSoFar) (s : Spaces) (r q : TypesSoFar × Spaces) (gs : List (Rec ℕ)) : Type 0 where
     its : Parts
-    has : HasParts expression_at ps (record its { groups = gs })
-    few_imports : length its.imports ≤ MAX_IMPORTS
+    has : HasParts G.compact_imports expression_at ps (record its { groups = gs })
     few_exports : length its.exports ≤ MAX_EXPORTS
     few_elements : length its.elements ≤ MAX_ELEMENT_SEGMENTS
     few_segments : length its.segments ≤ MAX_DATA_SEGMENTS
@@ -424,7 +491,7 @@ module _ (laws : UsedLaws) (features : WasmFeatures) (T : TypesSoFar) (ps : List
       → each (step features) p10 (at_rank 14 ps) ≡ Some q
       → Added us s p8 q gs
   lists_added us s gs groups p1 p2 p3 p4 p5 p6 p7 p8 p10 q same e2 e3 e4 e5 e6 e7 e8 e10 e14 =
-      let a = one_read (imports_are laws.entries features ps parts follows allowed) us s p1 p2 same e2 in
+      let a = imports_read laws.entries features ps parts follows allowed us s p1 p2 same e2 in
       let b = one_read (functions_are laws.entries features ps parts follows allowed) us a.after p2 p3 a.gives e3 in
       let c = one_read (tables_are laws.entries features ps parts follows allowed) us b.after p3 p4 b.gives e4 in
       let d = one_read (memories_are laws.entries features ps parts follows allowed) us c.after p4 p5 c.gives e5 in
@@ -474,7 +541,6 @@ module _ (laws : UsedLaws) (features : WasmFeatures) (T : TypesSoFar) (ps : List
           data_counts = refl;
           bodies = refl;
         };
-        few_imports = a.few;
         few_exports = g.few;
         few_elements = h.few;
         few_segments = k.few;
@@ -518,7 +584,7 @@ module _ (laws : UsedLaws) (features : WasmFeatures) (T : TypesSoFar) (ps : List
           others = record {
             groups = r.few;
             types = subst (λ n. n ≤ MAX_TYPES) (as_many_types features T r.gs r.types) (r.types).few;
-            imports = l.few_imports;
+            imports = few_by_size (index_spaces space its) its (v.0.0).size;
             exports = l.few_exports;
             elements = l.few_elements;
             segments = l.few_segments;
@@ -622,12 +688,11 @@ module _ (laws : UsedLaws) (features : WasmFeatures) (T : TypesSoFar) (ps : List
       let f_is = so_far gs types (up_to_globals p) f.0 (chained us s a.0 b.0 c.0 d.0 e.0 f.0 f.0 f.0 f.0 (up_to_globals p) a.1 b.1 c.1 d.1 e.1 f.1 refl refl refl) in
       let g_is = so_far gs types (up_to_exports p) g.0 (chained us s a.0 b.0 c.0 d.0 e.0 f.0 g.0 g.0 g.0 (up_to_exports p) a.1 b.1 c.1 d.1 e.1 f.1 g.1 refl refl) in
       let few_groups = others.groups in
-      let few_imports = others.imports in
       let few_exports = others.exports in
       let few_elements = others.elements in
       let few_segments = others.segments in
       let run1 : each (step features) start (at_rank 1 ps) ≡ Some (us, s) = groups_read laws.entries features ps parts follows allowed start (us, s) gs has.groups (omega (arith, few_groups)) (runs_to features gs start types.end types.ran types.few) in
-      let run2 : each (step features) (us, s) (at_rank 2 ps) ≡ Some (us, a.0) = read_one (imports_are laws.entries features ps parts follows allowed) us s p.imports a.0 has.imports (omega (arith, few_imports)) a.1 in
+      let run2 : each (step features) (us, s) (at_rank 2 ps) ≡ Some (us, a.0) = read_imports laws.entries features ps parts follows allowed us s p.imports a.0 refl has.imports a.1 in
       let run3 : each (step features) (us, a.0) (at_rank 3 ps) ≡ Some (us, b.0) = read_one (functions_are laws.entries features ps parts follows allowed) us a.0 p.functions b.0 has.functions (subst (λ (t : Spaces). length t.functions + length p.functions ≤ MAX_FUNCTIONS) a_is (front_fits (imported functions_in p.imports) p.functions valid.few_functions)) (mapped (add_function us) a.0 b.0 p.functions b.1) in
       let run4 : each (step features) (us, b.0) (at_rank 4 ps) ≡ Some (us, c.0) = read_one (tables_are laws.entries features ps parts follows allowed) us b.0 p.tables c.0 has.tables (subst (λ (t : Spaces). length t.tables + length p.tables ≤ most_tables G) b_is (listed_fit (listed_table is) table_type (imported tables_in p.imports) p.tables valid.few_tables)) c.1 in
       let run5 : each (step features) (us, c.0) (at_rank 5 ps) ≡ Some (us, d.0) = read_one (memories_are laws.entries features ps parts follows allowed) us c.0 p.memories d.0 has.memories (subst (λ (t : Spaces). length t.memories + length p.memories ≤ most_memories G) c_is (front_fits (imported memories_in p.imports) p.memories valid.few_memories)) (mapped (add_memory G) c.0 d.0 p.memories d.1) in

@@ -47,7 +47,7 @@ module _ (features : WasmFeatures) (T : TypesSoFar) (bytes : List ℕ) where
       first = ap (λ (ps : List Piece). slice_get ps 0) f.all ∙ ap Some header;
       allowed = subst (All (IsAllowedPiece F)) (sym f.all) (All-cons (IsAllowedPiece F) (Version f.number f.kind) (f.others ++ End ∷ []) tt (allowed_to_end F f.others allowed));
       parts = a.parts;
-      has_parts = subst (λ (ps : List Piece). HasParts expression_at ps a.parts) (sym f.all) (whole_has f.number f.kind f.others a.parts a.has);
+      has_parts = subst (λ (ps : List Piece). HasParts F.compact_imports expression_at ps a.parts) (sym f.all) (whole_has F.compact_imports f.number f.kind f.others a.parts a.has);
       types = (section features T a.parts.groups a.types).section;
       rules = parts_valid F accepted_spaces a.parts a.valid a.others;
     }
@@ -98,7 +98,7 @@ module _ (features : WasmFeatures) (T : TypesSoFar) (bytes : List ℕ) where
       let here : Some (Version f.number f.kind) ≡ Some (Version 1 0) = sym (ap (λ (ps : List Piece). slice_get ps 0) f.all) ∙ w.first in
       let header : Version f.number f.kind ≡ Version 1 0 = cc in
       let allowed = allowed_before_end F f.others (All-tail (IsAllowedPiece F) (Version f.number f.kind) (f.others ++ End ∷ []) (subst (All (IsAllowedPiece F)) f.all w.allowed)) in
-      let has : HasParts expression_at f.others p = inside_has f.number f.kind f.others p (subst (λ (ps : List Piece). HasParts expression_at ps p) f.all w.has_parts) in
+      let has : HasParts F.compact_imports expression_at f.others p = inside_has F.compact_imports f.number f.kind f.others p (subst (λ (ps : List Piece). HasParts F.compact_imports expression_at ps p) f.all w.has_parts) in
       let types = section_added apart before p.groups w.types room w.rules.limits.types in
       let space = (section features T p.groups types.added).section.types in
       let rules : AreValidParts F (index_spaces space p) p = subst (λ (x : List DefType). AreValidParts F (index_spaces x p) p) (sym types.same) w.rules in

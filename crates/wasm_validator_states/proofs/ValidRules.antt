@@ -1,12 +1,15 @@
 -- The rules of a module's parts are those of its lists, of its start functions, and its limits.
-use Rattle.std.proofs.Common.{ℕ, ◌≤◌, List, length}
+use Rattle.std.proofs.Common.{ℕ, ◌≤◌, ◌<◌, List, [], ◌∷◌, map, length, Option, Some, None, arith}
 use Rattle.std.specs.List.{All}
+use Rattle.wasm_spec.specs.BinaryModules.{Import}
 use Rattle.wasm_spec.specs.Features.{Features}
+use Rattle.wasm_spec.specs.Syntax.{Val, Extern, func_extern, func_exact_extern, table_extern, memory_extern, global_extern, tag_extern}
+use Rattle.wasm_spec.specs.Trees.{DefType}
 use Rattle.wasm_spec_rules.specs.Parts.{Parts}
-use Rattle.wasm_spec_rules.specs.IndexSpaces.{IndexSpaces}
-use Rattle.wasm_spec_rules.specs.LinkRules.{IsValidStart}
+use Rattle.wasm_spec_rules.specs.IndexSpaces.{IndexSpaces, signature_at}
+use Rattle.wasm_spec_rules.specs.LinkRules.{IsValidStart, signature_size, extern_size, import_size, sum, effective_size}
 use Rattle.wasm_spec_rules.specs.Modules.{AreValidParts}
-use Rattle.wasm_spec_rules.specs.Limits.{most_types, most_imports, most_exports, most_elements, most_segments}
+use Rattle.wasm_spec_rules.specs.Limits.{most_types, most_imports, most_exports, most_elements, most_segments, size_limit}
 use Rattle.wasm_validator_sections.specs.WasmLawsModules.Lists.{AreValidModuleLists}
 use Rattle.wasm_validator_sections.specs.declared.code_state.TheConstants.{MAX_FUNCTION_SIZE}
 
@@ -89,3 +92,28 @@ keeps_others F C p v = record {
   starts = v.starts;
   bodies = v.limits.bodies;
 }
+
+-- each import counts one at least in the effective size, so that the limit of that is one of imports too
+at_least_one : (s : Option (List (Val DefType) × List (Val DefType))) → 1 ≤ signature_size s
+at_least_one None = omega arith
+at_least_one (Some s) = omega arith
+
+counts_one : (types : List DefType) (x : Extern ℕ) → 1 ≤ extern_size types x
+counts_one types (func_extern x) = at_least_one (signature_at types x)
+counts_one types (func_exact_extern x) = at_least_one (signature_at types x)
+counts_one types (table_extern t) = omega arith
+counts_one types (memory_extern m) = omega arith
+counts_one types (global_extern g) = omega arith
+counts_one types (tag_extern x) = at_least_one (signature_at types x)
+
+count_ones : (types : List DefType) (is : List (Import ℕ)) → length is ≤ sum (map (import_size types) is)
+count_ones types [] = omega arith
+count_ones types (i ∷ is) =
+    let one = counts_one types i.ty in
+    let others = count_ones types is in
+    omega (arith, one, others)
+
+pub few_by_size : (C : IndexSpaces) (p : Parts) → effective_size C p.imports p.exports < size_limit → length p.imports ≤ most_imports
+few_by_size C p size =
+    let many = count_ones C.types p.imports in
+    omega (arith, size, many)

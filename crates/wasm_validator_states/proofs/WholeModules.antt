@@ -6,7 +6,7 @@ use Rattle.std.proofs.lemmas.Bool.{eqb-true}
 use Rattle.std.specs.declared.result.Result.{Result}
 use Rattle.std.specs.declared.result.Result.TheVariants as results
 use Rattle.wasm_spec.specs.Framing as parts
-use Rattle.wasm_spec.specs.Framing.{Piece, Version, Custom, Counted, Start, DataCount, CodeStart, CodeEntry, Unknown, IsFramed}
+use Rattle.wasm_spec.specs.Framing.{Piece, Version, IsFramed}
 use Rattle.wasm_spec.specs.Features.{Features, canonical}
 use Rattle.wasm_spec.specs.Trees.{DefType}
 use Rattle.wasm_spec.specs.TypeLaws.{HasNoRepetition}
@@ -346,7 +346,7 @@ run_valid laws bytes old new apart pieces f accepted valid bodies =
 -- there are as many bodies as functions that are defined
 few_enough : UsedLaws → (features : WasmFeatures) (T : TypesSoFar) (bytes : List ℕ) (pieces : List Piece) (f : IsFramed bytes pieces) (a : Accepted features T f.others) → length (flat_map bodies_of f.others) ≤ expected_bodies (end_of features T f.others a).1
 few_enough laws features T bytes pieces f a =
-    let many = laws.as_many expression_at bytes pieces f a.parts a.has in
+    let many = laws.as_many (features_of features).compact_imports expression_at bytes pieces f a.parts a.has in
     let same = ap length (a.has).bodies in
     let exact = exact_of_imports (a.parts).imports in
     let all = length-append (imported functions_in (a.parts).imports) (a.parts).functions in

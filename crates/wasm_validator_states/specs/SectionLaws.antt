@@ -5,7 +5,7 @@ use Rattle.std.specs.Prelude.{ℕ, ◌≡◌, ◌↔◌, ◌≤◌, ◌+◌, ◌
 use Rattle.std.specs.List.{All}
 use Rattle.wasm_spec.specs.Syntax.{Rec, reference, map_ref, map_val}
 use Rattle.wasm_spec.specs.Values.{u32_at, items_at}
-use Rattle.wasm_spec.specs.BinaryModules.{import_at, export_at}
+use Rattle.wasm_spec.specs.BinaryModules.{Import, export_at}
 use Rattle.wasm_spec.specs.BinaryTypes.{rec_at, memory_at, tag_at}
 use Rattle.wasm_spec.specs.BinarySections.{TableEntry, GlobalEntry, Element, Data, table_entry_at, global_entry_at, element_at, data_at}
 use Rattle.wasm_spec.specs.Closing.{closed, positions}
@@ -13,7 +13,7 @@ use Rattle.wasm_spec.specs.Features.{Features, canonical}
 use Rattle.wasm_spec.specs.GroupRules.{IsValidType}
 use Rattle.wasm_spec.specs.Trees.{RecTree, DefType, declared}
 use Rattle.wasm_spec_rules.specs.FeatureFlags.{features_of}
-use Rattle.wasm_spec_rules.specs.Parts.{Expression, index}
+use Rattle.wasm_spec_rules.specs.Parts.{Expression, index, section_imports}
 use Rattle.wasm_spec_rules.specs.IndexSpaces.{IndexSpaces, IsFunctionType}
 use Rattle.wasm_spec_rules.specs.ItemRules.{IsValidTableEntry, IsValidMemory, IsValidTag, IsValidGlobal}
 use Rattle.wasm_spec_rules.specs.LinkRules.{IsValidExport}
@@ -127,12 +127,22 @@ SegmentsAdd =
     → (after_section old 11 count bytes ≡ Some new)
     ↔ HasAddedEach (data_at expression_at) (FitsData (features_of old.features) us) (λ s d. s) 0 most_segments old new us m n count bytes
 
+-- The bytes are so many entries of an import section, each of whose imports keeps its rule on the lists so far. With as many imports as
+-- are there the entries keep to the limit, and the module has the lists that the imports make.
+pub record HasAddedImports (types : List DefType) (old new : Standing) (us : TypesSoFar) (m : Spaces) (n : Noted) (count : ℕ) (bytes : List ℕ) : Type 0 where
+  pub items : List (Import ℕ)
+  pub read : section_imports index (features_of old.features).compact_imports count bytes ≡ Some items
+  pub few : length m.imports + count ≤ most_imports
+  pub lists : Spaces
+  pub added : AddsEach (FitsImport (features_of old.features) types) (with_entry m.types types) m items lists
+  pub after : new ≡ record old { stage = in_module us lists n }
+
 -- imports, behind lists that keep their limits
 abbrev pub ImportsAdd : Type 0
 ImportsAdd =
     (old new : Standing) (us : TypesSoFar) (m : Spaces) (n : Noted) (types : List DefType) (count : ℕ) (bytes : List ℕ) → IsReading old us m n types → KeepsLimits (features_of old.features) m
     → (after_section old 2 count bytes ≡ Some new)
-    ↔ HasAddedEach (import_at index) (FitsImport (features_of old.features) types) (with_entry m.types types) (length m.imports) most_imports old new us m n count bytes
+    ↔ HasAddedImports types old new us m n count bytes
 
 -- exports, behind lists that are the index spaces of a module
 abbrev pub ExportsAdd : Type 0

@@ -34,8 +34,9 @@ class WasmFeatures(IntFlag):
     WIDE_ARITHMETIC = 1 << 23  # sums, differences and products of integers of 128 bits
     MEMORY_CONTROL = 1 << 24  # memory.discard, which gives up the content of pages
     DESCRIPTOR_OPERATORS = 1 << 25  # ref.get_desc, casts and branches by descriptors; they need CUSTOM_DESCRIPTORS too
-    SHARED_ATOMIC_OPERATORS = 1 << 26  # atomic accesses to globals, tables, structures, arrays; they need SHARED_EVERYTHING_THREADS
+    SHARED_ATOMIC_OPERATORS = 1 << 26  # pause, atomic access to globals, tables, structures, arrays; need SHARED_EVERYTHING_THREADS
     STACK_SWITCHING_OPERATORS = 1 << 27  # the operators on continuations; they need STACK_SWITCHING too
+    COMPACT_IMPORTS = 1 << 28  # entries of the import section that have several imports of one module
     # what is on by default: the Core Specification 3.0 without its operators on vectors, but with v128.const, and shared memories
     STANDARD = (
         MUTABLE_GLOBAL | REFERENCE_TYPES | MULTI_VALUE | BULK_MEMORY | SIMD | THREADS | FLOATS | MULTI_MEMORY | EXCEPTIONS | MEMORY64 | EXTENDED_CONST
@@ -45,5 +46,5 @@ class WasmFeatures(IntFlag):
     ALL = (
         STANDARD
         | SHARED_EVERYTHING_THREADS | CUSTOM_PAGE_SIZES | CUSTOM_DESCRIPTORS | STACK_SWITCHING | COMPONENT_MODEL | VECTOR_OPERATORS | ATOMIC_OPERATORS
-        | LEGACY_EXCEPTIONS | WIDE_ARITHMETIC | MEMORY_CONTROL | DESCRIPTOR_OPERATORS | SHARED_ATOMIC_OPERATORS | STACK_SWITCHING_OPERATORS
+        | LEGACY_EXCEPTIONS | WIDE_ARITHMETIC | MEMORY_CONTROL | DESCRIPTOR_OPERATORS | SHARED_ATOMIC_OPERATORS | STACK_SWITCHING_OPERATORS | COMPACT_IMPORTS
     )

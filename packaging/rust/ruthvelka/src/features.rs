@@ -57,10 +57,12 @@ impl WasmFeatures {
     pub const MEMORY_CONTROL: WasmFeatures = WasmFeatures(1 << 24);
     /// ref.get_desc, casts and branches by descriptors; they need CUSTOM_DESCRIPTORS too
     pub const DESCRIPTOR_OPERATORS: WasmFeatures = WasmFeatures(1 << 25);
-    /// atomic accesses to globals, tables, structures, arrays; they need SHARED_EVERYTHING_THREADS
+    /// pause, atomic access to globals, tables, structures, arrays; need SHARED_EVERYTHING_THREADS
     pub const SHARED_ATOMIC_OPERATORS: WasmFeatures = WasmFeatures(1 << 26);
     /// the operators on continuations; they need STACK_SWITCHING too
     pub const STACK_SWITCHING_OPERATORS: WasmFeatures = WasmFeatures(1 << 27);
+    /// entries of the import section that have several imports of one module
+    pub const COMPACT_IMPORTS: WasmFeatures = WasmFeatures(1 << 28);
     /// What is on by default: the Core Specification 3.0 without its operators on vectors, but with `v128.const`, and shared memories.
     pub const STANDARD: WasmFeatures = WasmFeatures(
         WasmFeatures::MUTABLE_GLOBAL.0
@@ -106,12 +108,13 @@ impl WasmFeatures {
             | WasmFeatures::MEMORY_CONTROL.0
             | WasmFeatures::DESCRIPTOR_OPERATORS.0
             | WasmFeatures::SHARED_ATOMIC_OPERATORS.0
-            | WasmFeatures::STACK_SWITCHING_OPERATORS.0,
+            | WasmFeatures::STACK_SWITCHING_OPERATORS.0
+            | WasmFeatures::COMPACT_IMPORTS.0,
     );
 }
 
 /// Each feature by its name.
-pub(crate) const NAMES: [(&str, WasmFeatures); 28] = [
+pub(crate) const NAMES: [(&str, WasmFeatures); 29] = [
     ("MUTABLE_GLOBAL", WasmFeatures::MUTABLE_GLOBAL),
     ("REFERENCE_TYPES", WasmFeatures::REFERENCE_TYPES),
     ("MULTI_VALUE", WasmFeatures::MULTI_VALUE),
@@ -140,4 +143,5 @@ pub(crate) const NAMES: [(&str, WasmFeatures); 28] = [
     ("DESCRIPTOR_OPERATORS", WasmFeatures::DESCRIPTOR_OPERATORS),
     ("SHARED_ATOMIC_OPERATORS", WasmFeatures::SHARED_ATOMIC_OPERATORS),
     ("STACK_SWITCHING_OPERATORS", WasmFeatures::STACK_SWITCHING_OPERATORS),
+    ("COMPACT_IMPORTS", WasmFeatures::COMPACT_IMPORTS),
 ];
