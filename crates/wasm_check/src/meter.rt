@@ -1,4 +1,5 @@
-//! How far a call is, on the error output.
+//! How far a call is, on the error output. No contract says what is shown and when, since the kit has no
+//! model of clocks and of terminals.
 
 use std::time::{Duration, Instant};
 use wasm_check_files::Progress;

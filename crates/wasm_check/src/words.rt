@@ -12,6 +12,10 @@ const FEATURES: &str =
     "Features that modules may use: `default`, `all`, `wasm3` for what the Core Specification 3.0 has, or a feature's name with + or - before it, \
 as in `default,-simd,+custom_page_sizes`, from left to right behind `default`; names are in small letters, with _ or - between their words";
 
+/// What `--help` says of opcodes that no feature which is on serves.
+const OPCODES: &str =
+    "An `illegal opcode` may be an operator of a feature that only `all` has: try `--features all`.";
+
 /// What `--help` says last.
 const STATUSES: &str =
     "Exit status: 0 if all files are valid, 1 if some are not, 2 if something else went wrong.";
@@ -73,7 +77,8 @@ pub fn show_words(alloc: Global, words: &[String]) -> Result<Vec<String>, AllocE
 
 /// What `--help` says behind the options: the names of features, and the exit status.
 pub fn end_of_help(alloc: Global) -> Result<String, AllocError> {
-    let mut text = String::from_str(alloc, "Features that `default` has:")?;
+    let mut text = String::from_str(alloc, OPCODES)?;
+    text.push_str("\n\nFeatures that `default` has:")?;
     add_names(&mut text, WasmFeatures::STANDARD)?;
     text.push_str("Features that only `all` has:")?;
     add_names(

@@ -1,3 +1,4 @@
 pub mod WorstStatuses
 mod TypeListRoom
 pub mod FilesByName
+mod NamesFound

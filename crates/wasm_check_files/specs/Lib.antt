@@ -1,3 +1,5 @@
 pub mod FeatureWords
 pub mod Statuses
 pub mod ExitStatuses
+pub mod FoundFiles
+pub mod CountedFiles

@@ -1,8 +1,10 @@
 //! Files are checked, and the exit status says what was found.
 
-ghost use Rattle.std.specs.Prelude.{◌≡◌, ◌≤◌, ◌⊎◌, IfOk, map, string_bytes, Some, ⊤};
+ghost use Rattle.std.specs.Prelude.{◌≡◌, ◌≤◌, ◌⊎◌, IfOk, OnOk, length, map, string_bytes, Some, ⊤};
 ghost use Rattle.std.specs.List.{All};
 ghost use Rattle.wasm_check_reports.specs.WasmValidateFiles.Files.{IsRead, HasRoomForAll};
+ghost use Rattle.wasm_check_reports.specs.Summaries.{with_answers};
+ghost use Rattle.wasm_check_files.specs.CountedFiles.{AreCounted};
 ghost use Rattle.wasm_check_files.specs.ExitStatuses.{StatusTells, WereChecked, room_for};
 ghost use Rattle.wasm_check_files.specs.Statuses.{IsWorst, status_at, status_of, status_of_error};
 
@@ -223,6 +225,7 @@ pub fn check_inputs<W: Write, E: Write>(
     requires read { All IsRead files.now }
     ensures told { IfOk result (StatusTells settings.now.features
         (HasRoomForAll settings.now.features) files.now) }
+    ensures counted { OnOk result (AreCounted settings.now.features files.now summary.old summary.new) }
     ensures silent { IfOk result (λ status. (status ≡ STATUS_TROUBLE → ⊥) → err.new ≡ err.old) }
     ensures quiet { settings.now.form ≡ Form.Quiet → out.new ≡ out.old }
 {
@@ -235,7 +238,9 @@ pub fn check_inputs<W: Write, E: Write>(
 }
 
 /// Counts each file, with its answer if it has one.
-fn count_answers(summary: &mut Summary, files: &[Input], answers: &[Answer<Global>]) {
+fn count_answers(summary: &mut Summary, files: &[Input], answers: &[Answer<Global>])
+    ensures { summary.new ≡ with_answers summary.old answers.now (length files.now) }
+{
     'places: for place in 0..files.len() {
         summary.count(answers.get(place));
     }

@@ -1,5 +1,9 @@
 //! A folder stands for the files in and below it.
 
+ghost use Rattle.std.specs.Prelude.{◌≡◌, OnOk, IfOk, map, true};
+ghost use Rattle.std.specs.List.{All};
+ghost use Rattle.wasm_check_files.specs.FoundFiles.{has_ending, IsLookedFor, HasMore, StandFor};
+
 use crate::read::shown_name;
 use std::alloc::{AllocError, Global};
 use std::fs::{self, DirEntry};
@@ -22,7 +26,8 @@ pub struct Found {
 /// The files that these names stand for: a folder for those in and below it whose names end in
 /// `.wasm`, by their bytes in order, and any other name for itself. Links to files count as files, and
 /// links to folders below are not followed. What can't be read is told on `err`, and so is a folder
-/// without such a file.
+/// without such a file. No contract says what a folder holds, since the kit has no model of files; what
+/// is said is that no name is left out where all was found (`StandFor`).
 ///
 /// # Errors
 ///
@@ -31,7 +36,10 @@ pub fn find_files<R: Files + AllocGlobal + Clone + Drop, E: Write>(
     rt: &R,
     names: &[&str],
     err: &mut E,
-) -> Result<Found, AllocError> {
+) -> Result<Found, AllocError>
+    ensures { IfOk result (λ found. found.is_whole ≡ true
+        → StandFor (map (λ name. name.now) names.now) found.files.items) }
+{
     let mut found = Found {
         files: Vec::new(rt.alloc()),
         is_whole: true,
@@ -59,7 +67,11 @@ fn find_below<R: Files + AllocGlobal + Clone + Drop, E: Write>(
     name: &str,
     found: &mut Found,
     err: &mut E,
-) -> Result<(), AllocError> {
+) -> Result<(), AllocError>
+    ensures kept { found.new.is_whole ≡ true → found.old.is_whole ≡ true }
+    ensures more { OnOk result (found.new.is_whole ≡ true
+        → HasMore found.old.files.items found.new.files.items) }
+{
     let mut files = Vec::new(rt.alloc());
     let mut folders = Vec::new(rt.alloc());
     folders.push(String::from_str(rt.alloc(), name)?)?;
@@ -82,10 +94,15 @@ fn find_below<R: Files + AllocGlobal + Clone + Drop, E: Write>(
         found.is_whole = false;
     }
     files.sort()?;
-    'files: for file in files {
-        found.files.push(file)?;
-    }
-    Ok(())
+    found.files.append(&mut files)
+}
+
+/// Whether a file of this name is looked for in folders.
+#[tactic(auto, using(std::proofs::lemmas::Str::Pattern::ends_text))]
+fn has_ending(name: &str) -> bool
+    ensures { result ≡ has_ending name.now }
+{
+    name.ends_with(ENDING)
 }
 
 /// Says what is wrong with a folder.
@@ -100,13 +117,15 @@ fn read_folder<R: Files + AllocGlobal + Clone + Drop>(
     name: &str,
     files: &mut Vec<String>,
     folders: &mut Vec<String>,
-) -> io::Result<()> {
+) -> io::Result<()>
+    ensures { All IsLookedFor files.old.items → All IsLookedFor files.new.items }
+{
     'entries: for entry in fs::read_dir(rt, name)? {
         let entry = entry?;
         let path = String::from_str(rt.alloc(), entry.path().as_str())?;
         if entry.file_type()?.is_dir() {
             folders.push(path)?;
-        } else if path.as_str().ends_with(ENDING) && !is_folder(rt, path.as_str()) {
+        } else if has_ending(path.as_str()) && !is_folder(rt, path.as_str()) {
             files.push(path)?;
         }
     }

@@ -1,1 +1,2 @@
 pub use Rattle.wasm_validate_files.proofs as WasmValidateFiles
+mod VerdictObjects

@@ -1,5 +1,5 @@
 -- How many files ended in which way.
-use Rattle.std.specs.Prelude.{ℕ, ◌+◌, min, Option, Some, None}
+use Rattle.std.specs.Prelude.{ℕ, zero, suc, ◌+◌, min, slice_get, Option, Some, None, List, [], ◌∷◌, ◌++◌, codes, decimal}
 use Rattle.std.specs.declared.result.Result.{Result}
 use Rattle.std.specs.declared.result.Result.TheVariants.{Ok, Err}
 use Rattle.wasm_validate_files.specs.WasmValidatorTypes.declared.shown.Types as shown
@@ -24,3 +24,12 @@ module _ {A : Type 0} where
   with_answer s None = record s { not_checked = one_more s.not_checked }
   with_answer s (Some (Ok t)) = record s { valid = one_more s.valid }
   with_answer s (Some (Err e)) = with_error s e
+
+  -- with so many files more that were read, each with the answer at its place, if there is one
+  abbrev pub with_answers : Summary → List (Result (shown.Types A) (Error A)) → ℕ → Summary
+  with_answers s answers zero = s
+  with_answers s answers (suc k) = with_answer (with_answers s answers k) (slice_get answers k)
+
+-- the line that says how many files ended in which way
+abbrev pub summary_line : Summary → List ℕ
+summary_line s = decimal s.valid ++ (codes " valid, " ++ (decimal s.invalid ++ (codes " invalid, " ++ (decimal s.not_checked ++ (codes " not checked, " ++ (decimal s.failed ++ (codes " failed" ++ 10 ∷ [])))))))

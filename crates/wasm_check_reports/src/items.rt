@@ -3,6 +3,7 @@
 ghost use Rattle.std.specs.Prelude.{◌≡◌, ◌<◌};
 ghost use Rattle.wasm_validate_files.specs.WasmValidatorTypes.ShownModules.{shown_by};
 ghost use Rattle.wasm_check_reports.specs.Counts.{count_in};
+ghost use Rattle.wasm_check_reports.specs.ItemWords.{word_of, plural, singular};
 
 use crate::imports::write_imports;
 use crate::settings::Form;
@@ -62,7 +63,9 @@ pub struct Item<'a> {
 }
 
 /// What an item of this kind is called.
-pub fn word_of<'a>(kind: Kind) -> &'a str {
+pub fn word_of<'a>(kind: Kind) -> &'a str
+    ensures { result.now ≡ word_of kind }
+{
     match kind {
         Kind::Of(space) => singular(space),
         Kind::Import(_, _) => "import",
@@ -71,7 +74,9 @@ pub fn word_of<'a>(kind: Kind) -> &'a str {
 }
 
 /// What several of an index space are called.
-pub fn plural<'a>(space: Space) -> &'a str {
+pub fn plural<'a>(space: Space) -> &'a str
+    ensures { result.now ≡ plural space }
+{
     match space {
         Space::Types => "types",
         Space::Functions => "functions",
@@ -84,7 +89,9 @@ pub fn plural<'a>(space: Space) -> &'a str {
 }
 
 /// What one of an index space is called.
-pub fn singular<'a>(space: Space) -> &'a str {
+pub fn singular<'a>(space: Space) -> &'a str
+    ensures { result.now ≡ singular space }
+{
     match space {
         Space::Types => "type",
         Space::Functions => "function",

@@ -1,5 +1,12 @@
 //! JSON objects, one on each line.
 
+ghost use Rattle.std.specs.Prelude.{◌≡◌, ◌∷◌, ◌++◌, [], OnOk, string_bytes, false, option_map, codes};
+ghost use Rattle.serde_json.specs.View.{members_view};
+ghost use Rattle.serde_json.specs.Data.{Data, object, string, number as number_data, unsigned, put as with_member};
+ghost use Rattle.serde_json.specs.Written.{compact_text, has_float};
+ghost use Rattle.wasm_check_reports.specs.Lines.{HasLine, IsVerdict, summary_data};
+ghost use Rattle.wasm_check_reports.specs.Verdicts.{verdict_word};
+
 use crate::items::{Item, Kind, SPACES, count_in, plural, singular, word_of};
 use crate::places::{Place, bytes_around, find_place, section_name};
 use crate::summary::Summary;
@@ -21,23 +28,41 @@ pub fn write_verdict(
     file: &Input,
     answer: Option<&Answer<Global>>,
     explains: bool,
-) -> Result<(), AllocError> {
+) -> Result<(), AllocError>
+    ensures { OnOk result ((d : Data) × IsVerdict (string_bytes file.now.name)
+        (verdict_word (option_map (λ a. a.now) answer.entry)) d
+        × HasLine d (string_bytes text.old) (string_bytes text.new)) }
+{
     let mut members = Map::new(alloc);
-    put_text(&mut members, alloc, "file", file.name.as_str())?;
     match answer {
         Some(Ok(types)) => put_valid(&mut members, alloc, &types.as_ref())?,
-        Some(Err(error)) if error.is_out_of_memory() => {
-            put_text(&mut members, alloc, "verdict", "out of memory")?;
-        }
-        Some(Err(error)) => {
+        Some(Err(error)) if !error.is_out_of_memory() => {
             put_error(&mut members, alloc, bytes_of(file), error)?;
             if explains {
                 put_place(&mut members, alloc, bytes_of(file), error.offset())?;
             }
         }
-        None => put_text(&mut members, alloc, "verdict", "not checked")?,
+        _ => {}
     }
-    write_line(text, alloc, members)
+    write_judged(
+        text,
+        alloc,
+        members,
+        file.name.as_str(),
+        verdict_word(answer),
+    )
+}
+
+/// The verdict of a file with this answer, or with none.
+fn verdict_word<'a>(answer: Option<&Answer<Global>>) -> &'a str
+    ensures { result.now ≡ verdict_word (option_map (λ a. a.now) answer.entry) }
+{
+    match answer {
+        Some(Ok(_)) => "valid",
+        Some(Err(error)) if error.is_out_of_memory() => "out of memory",
+        Some(Err(_)) => "invalid",
+        None => "not checked",
+    }
 }
 
 /// Writes the object of a file that could not be read.
@@ -46,11 +71,29 @@ pub fn write_unread(
     alloc: Global,
     name: &str,
     error: &io::Error,
-) -> Result<(), AllocError> {
+) -> Result<(), AllocError>
+    ensures { OnOk result ((d : Data) × IsVerdict name.now (codes "unreadable") d
+        × HasLine d (string_bytes text.old) (string_bytes text.new)) }
+{
     let mut members = Map::new(alloc);
-    put_text(&mut members, alloc, "file", name)?;
-    put_text(&mut members, alloc, "verdict", "unreadable")?;
     put_message(&mut members, alloc, error, "")?;
+    write_judged(text, alloc, members, name, "unreadable")
+}
+
+/// Writes the object with these members, the name of a file and its verdict.
+fn write_judged(
+    text: &mut String,
+    alloc: Global,
+    members: Members,
+    name: &str,
+    word: &str,
+) -> Result<(), AllocError>
+    ensures { OnOk result ((d : Data) × IsVerdict name.now word.now d
+        × HasLine d (string_bytes text.old) (string_bytes text.new)) }
+{
+    let mut members = members;
+    put_text(&mut members, alloc, "file", name)?;
+    put_text(&mut members, alloc, "verdict", word)?;
     write_line(text, alloc, members)
 }
 
@@ -90,12 +133,12 @@ fn put_names(members: &mut Members, alloc: Global, item: &Item<'_>) -> Result<()
     }
 }
 
+/// Puts what is said of a valid module.
 fn put_valid(
     members: &mut Members,
     alloc: Global,
     shown: &TypesRef<'_, Global>,
 ) -> Result<(), AllocError> {
-    put_text(members, alloc, "verdict", "valid")?;
     let mut counts = Map::new(alloc);
     put_counts(&mut counts, alloc, shown)?;
     put(members, alloc, "counts", Value::Object(counts))
@@ -119,13 +162,13 @@ fn put_counts(
     Ok(())
 }
 
+/// Puts what is said of a module that is refused.
 fn put_error(
     members: &mut Members,
     alloc: Global,
     bytes: &[u8],
     error: &Error<Global>,
 ) -> Result<(), AllocError> {
-    put_text(members, alloc, "verdict", "invalid")?;
     put_number(members, alloc, "offset", error.offset())?;
     if let Some(function) = error.function() {
         put_number(members, alloc, "function", u64::from(function))?;
@@ -179,11 +222,10 @@ fn write_hex(text: &mut String, bytes: &[u8]) -> Result<(), AllocError> {
 }
 
 /// Writes the object that says how many files ended in which way.
-pub fn write_summary(
-    text: &mut String,
-    alloc: Global,
-    summary: &Summary,
-) -> Result<(), AllocError> {
+pub fn write_summary(text: &mut String, alloc: Global, summary: &Summary) -> Result<(), AllocError>
+    ensures { OnOk result (string_bytes text.new
+        ≡ string_bytes text.old ++ (compact_text (summary_data summary.now) ++ 10 ∷ [])) }
+{
     let mut counts = Map::new(alloc);
     put_number(&mut counts, alloc, "valid", summary.valid)?;
     put_number(&mut counts, alloc, "invalid", summary.invalid)?;
@@ -213,7 +255,10 @@ fn put_message<D: std::fmt::Display>(
     put(members, alloc, "message", Value::String(message))
 }
 
-fn put_text(members: &mut Members, alloc: Global, key: &str, text: &str) -> Result<(), AllocError> {
+fn put_text(members: &mut Members, alloc: Global, key: &str, text: &str) -> Result<(), AllocError>
+    ensures { OnOk result (members_view members.new.entries
+        ≡ with_member key.now (string text.now) (members_view members.old.entries)) }
+{
     put(members, alloc, key, Value::try_from_str(alloc, text)?)
 }
 
@@ -222,12 +267,21 @@ fn put_number(
     alloc: Global,
     key: &str,
     number: u64,
-) -> Result<(), AllocError> {
+) -> Result<(), AllocError>
+    ensures { OnOk result (members_view members.new.entries
+        ≡ with_member key.now (number_data (unsigned number)) (members_view members.old.entries)) }
+{
     put(members, alloc, key, Value::from(number))
 }
 
 /// Writes an object and the end of the line.
-fn write_line(text: &mut String, alloc: Global, members: Members) -> Result<(), AllocError> {
+fn write_line(text: &mut String, alloc: Global, members: Members) -> Result<(), AllocError>
+    ensures exact { OnOk result (has_float (object (members_view members.entries)) ≡ false
+        → string_bytes text.new
+        ≡ string_bytes text.old ++ (compact_text (object (members_view members.entries)) ++ 10 ∷ [])) }
+    ensures line { OnOk result (HasLine (object (members_view members.entries))
+        (string_bytes text.old) (string_bytes text.new)) }
+{
     let line = Value::Object(members).to_string(alloc)?;
     text.push_str(line.as_str())?;
     text.push('\n')?;

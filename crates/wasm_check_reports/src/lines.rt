@@ -1,5 +1,10 @@
 //! Lines that a person reads.
 
+ghost use Rattle.std.specs.Prelude.{◌≡◌, ◌++◌, OnOk, string_bytes, option_map};
+ghost use Rattle.serde_json.specs.Data.{Data};
+ghost use Rattle.wasm_check_reports.specs.Lines.{IsVerdict, BeginsWithLine};
+ghost use Rattle.wasm_check_reports.specs.Verdicts.{line_front, line_with, verdict_word, Begins};
+
 use crate::items::{Item, Kind, SPACES, count_in, plural, singular, word_of, write_items};
 use crate::json;
 use crate::places::{Place, bytes_around, find_place, section_name};
@@ -12,83 +17,112 @@ use wasm_validate_files::{
     Answer, Input, Printable, bytes_of, count_exports, count_imports, hint_of,
 };
 
-/// A verdict as it is printed, in a color where colors are asked for (ECMA-48, Select Graphic
-/// Rendition).
-#[derive(Clone, Copy)]
-enum Verdict {
-    Valid,
-    Invalid,
-    NotChecked,
-}
-
-/// Writes what is asked for of a file that could be read.
+/// Writes what is asked for of a file that could be read. A line that a person reads begins with the
+/// file's name and the verdict, unless memory was refused for it; an object has both.
 pub fn write_report(
     text: &mut String,
     alloc: Global,
     file: &Input,
     answer: Option<&Answer<Global>>,
     settings: &Settings,
-) -> Result<(), AllocError> {
+) -> Result<(), AllocError>
+    ensures verdict { settings.now.form ≡ Form.Text → OnOk result (Begins (string_bytes text.old
+        ++ line_front settings.now.is_colored (string_bytes file.now.name) (option_map (λ a. a.now) answer.entry))
+        (string_bytes text.new)) }
+    ensures json { settings.now.form ≡ Form.Json → OnOk result ((d : Data) × IsVerdict
+        (string_bytes file.now.name) (verdict_word (option_map (λ a. a.now) answer.entry)) d
+        × BeginsWithLine d (string_bytes text.old) (string_bytes text.new)) }
+    ensures quiet { settings.now.form ≡ Form.Quiet → text.new ≡ text.old }
+{
     match settings.form {
+        Form::Quiet => return Ok(()),
         Form::Json => json::write_verdict(text, alloc, file, answer, settings.explains)?,
-        Form::Text => write_verdict(text, alloc, file, answer, settings)?,
-        Form::Quiet => {}
+        Form::Text => write_front(text, file.name.as_str(), answer, settings.is_colored)?,
     }
+    // by itself, since no contract says that what displays a type only adds to a text
+    let mut rest = String::new(alloc);
+    write_rest(&mut rest, alloc, file, answer, settings)?;
+    text.push_str(rest.as_str())
+}
+
+/// Writes the name of a file and the verdict.
+fn write_front(
+    text: &mut String,
+    name: &str,
+    answer: Option<&Answer<Global>>,
+    is_colored: bool,
+) -> Result<(), AllocError>
+    ensures { OnOk result (string_bytes text.new ≡ string_bytes text.old
+        ++ line_front is_colored name.now (option_map (λ a. a.now) answer.entry)) }
+{
     match answer {
-        Some(Ok(types)) => {
-            if settings.shows_items {
-                write_items(text, alloc, file, &types.as_ref(), settings.form)?;
-            }
-            Ok(())
-        }
-        _ => Ok(()),
+        Some(Ok(_)) => write_verdict(text, name, "32", "valid", is_colored),
+        // said on the error output
+        Some(Err(error)) if error.is_out_of_memory() => Ok(()),
+        Some(Err(_)) => write_verdict(text, name, "31", "invalid", is_colored),
+        None => write_verdict(text, name, "33", "not checked", is_colored),
     }
 }
 
+/// Writes the name of a file and a verdict, in its color where colors are asked for (ECMA-48, Select
+/// Graphic Rendition).
 fn write_verdict(
+    text: &mut String,
+    name: &str,
+    color: &str,
+    word: &str,
+    is_colored: bool,
+) -> Result<(), AllocError>
+    ensures { OnOk result (string_bytes text.new ≡ string_bytes text.old
+        ++ line_with is_colored name.now color.now word.now) }
+{
+    let name = Printable(name);
+    if is_colored {
+        write!(text, "{name}: \x1b[{color}m{word}\x1b[0m")
+    } else {
+        write!(text, "{name}: {word}")
+    }
+}
+
+/// Writes what stands behind the verdict of a file, and the items of one that is valid.
+fn write_rest(
     text: &mut String,
     alloc: Global,
     file: &Input,
     answer: Option<&Answer<Global>>,
     settings: &Settings,
 ) -> Result<(), AllocError> {
-    let name = Printable(file.name.as_str());
-    match answer {
-        // said on the error output
-        Some(Err(error)) if error.is_out_of_memory() => return Ok(()),
-        _ => write!(text, "{name}: ")?,
+    if let Form::Text = settings.form {
+        write_details(text, alloc, file, answer, settings.explains)?;
     }
     match answer {
-        Some(Ok(types)) => {
-            write_word(text, Verdict::Valid, settings)?;
-            write_counts(text, &types.as_ref())
+        Some(Ok(types)) if settings.shows_items => {
+            write_items(text, alloc, file, &types.as_ref(), settings.form)
         }
+        _ => Ok(()),
+    }
+}
+
+/// Writes what stands behind the verdict in a line that a person reads.
+fn write_details(
+    text: &mut String,
+    alloc: Global,
+    file: &Input,
+    answer: Option<&Answer<Global>>,
+    explains: bool,
+) -> Result<(), AllocError> {
+    match answer {
+        Some(Ok(types)) => write_counts(text, &types.as_ref()),
+        // said on the error output
+        Some(Err(error)) if error.is_out_of_memory() => Ok(()),
         Some(Err(error)) => {
-            write_word(text, Verdict::Invalid, settings)?;
             write_error(text, alloc, file, error)?;
-            if settings.explains {
+            if explains {
                 write_place(text, bytes_of(file), error.offset())?;
             }
             Ok(())
         }
-        None => {
-            write_word(text, Verdict::NotChecked, settings)?;
-            text.push('\n')
-        }
-    }
-}
-
-/// Writes a verdict.
-fn write_word(text: &mut String, verdict: Verdict, settings: &Settings) -> Result<(), AllocError> {
-    let (color, word) = match verdict {
-        Verdict::Valid => (32, "valid"),
-        Verdict::Invalid => (31, "invalid"),
-        Verdict::NotChecked => (33, "not checked"),
-    };
-    if settings.is_colored {
-        write!(text, "\x1b[{color}m{word}\x1b[0m")
-    } else {
-        text.push_str(word)
+        None => text.push('\n'),
     }
 }
 

@@ -1,7 +1,9 @@
 //! How many files ended in which way.
 
-ghost use Rattle.std.specs.Prelude.{◌≡◌, option_map};
-ghost use Rattle.wasm_check_reports.specs.Summaries.{with_answer, with_error, one_more};
+ghost use Rattle.std.specs.Prelude.{◌≡◌, ◌∷◌, ◌++◌, [], OnOk, string_bytes, option_map};
+ghost use Rattle.serde_json.specs.Written.{compact_text};
+ghost use Rattle.wasm_check_reports.specs.Lines.{summary_data};
+ghost use Rattle.wasm_check_reports.specs.Summaries.{with_answer, with_error, one_more, summary_line};
 
 use crate::json;
 use crate::settings::Form;
@@ -70,7 +72,13 @@ pub fn write_summary(
     alloc: Global,
     summary: &Summary,
     form: Form,
-) -> Result<(), AllocError> {
+) -> Result<(), AllocError>
+    ensures text { form ≡ Form.Text → OnOk result (string_bytes text.new
+        ≡ string_bytes text.old ++ summary_line summary.now) }
+    ensures json { form ≡ Form.Json → OnOk result (string_bytes text.new
+        ≡ string_bytes text.old ++ (compact_text (summary_data summary.now) ++ 10 ∷ [])) }
+    ensures quiet { form ≡ Form.Quiet → text.new ≡ text.old }
+{
     match form {
         Form::Text => write_line(text, summary),
         Form::Json => json::write_summary(text, alloc, summary),
@@ -78,7 +86,9 @@ pub fn write_summary(
     }
 }
 
-fn write_line(text: &mut String, summary: &Summary) -> Result<(), AllocError> {
+fn write_line(text: &mut String, summary: &Summary) -> Result<(), AllocError>
+    ensures { OnOk result (string_bytes text.new ≡ string_bytes text.old ++ summary_line summary.now) }
+{
     let Summary {
         valid,
         invalid,

@@ -19,7 +19,8 @@ pub enum Word {
     NoText(String),
 }
 
-/// The words behind the program's name. Only memory can be refused.
+/// The words behind the program's name. Only memory can be refused. No contract says which words these
+/// are, since the kit has no model of a command line.
 pub fn read_words<R: Env + AllocGlobal>(rt: &R) -> Result<Vec<Word>, AllocError> {
     let mut words = Vec::new(rt.alloc());
     'places: for place in 1..usize::MAX {

@@ -1,7 +1,8 @@
-use Rattle.std.proofs.Common.{◌≡◌, ◌≤◌, length, subst, arith}
+use Rattle.std.proofs.Common.{◌≤◌, ◌∙◌, ap, length, subst, arith}
 use Rattle.std.proofs.lemmas.List.{length-map}
 use Rattle.wasm_check_reports.specs.WasmValidateFiles.Files.{bytes_held}
 use Rattle.wasm_check_reports.specs.WasmValidateFiles.Answers.{AreAnswers}
+use Rattle.wasm_check_reports.specs.Summaries.{with_answers}
 use Rattle.wasm_check_files.specs.Statuses.{IsWorst}
 use Rattle.wasm_check_files.proofs.WorstStatuses.{status_tells}
 use Rattle.wasm_check_files.proofs.check.check_inputs.Goals as goal
@@ -15,3 +16,10 @@ returns-clause-told g c =
     let all = length-map c.args.files.now bytes_held in
     let short : length c.in_ok-answers.answers.items ≤ length c.args.files.now = omega (arith, most, all) in
     status_tells c.args.settings.now.features c.args.files.now c.in_ok-answers.answers.items c.worst_status-status.result c.requires.read are short c.worst_status-status.ensures.known worst
+
+pub returns-clause-counted : goal.returns-clause-counted
+returns-clause-counted g c = record {
+  answers = c.in_ok-answers.answers.items;
+  right = c.in_ok-answers.ensures;
+  counted = c.count_answers.ensures ∙ ap (λ xs. with_answers c.args.summary.now xs (length c.args.files.now)) c.as_slice-2.ensures.value;
+}

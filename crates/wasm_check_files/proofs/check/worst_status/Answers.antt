@@ -1,5 +1,4 @@
-use Rattle.std.proofs.Common.{inl, inr, refl, arith, subst}
-use Rattle.wasm_check_files.proofs.WorstStatuses.{more_worst}
+use Rattle.std.proofs.Common.{inl, refl, arith}
 use Rattle.wasm_check_files.proofs.check.worst_status.Goals as goal
 
 pub places-init : goal.places-init
