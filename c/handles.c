@@ -75,6 +75,19 @@ static uint32_t tell_nothing(struct ruthvelka_outcome *to, uint32_t status) {
     return is_outcome(to) ? tell(to, status, &nothing) : status;
 }
 
+/* The three above for the other files of c/. */
+bool ruthvelka_may_be_told(const struct ruthvelka_outcome *it) {
+    return is_outcome(it);
+}
+
+uint32_t ruthvelka_tell(struct ruthvelka_outcome *to, uint32_t status, const struct ruthvelka_report *report) {
+    return tell(to, status, report);
+}
+
+uint32_t ruthvelka_tell_nothing(struct ruthvelka_outcome *to, uint32_t status) {
+    return tell_nothing(to, status);
+}
+
 /* Lets go what a handle holds, by the allocator that it was taken from, and leaves nothing of it. */
 static void let_go(void **words) {
     if (!words || !words[PLACE]) return;

@@ -29,3 +29,8 @@ extern const struct ruthvelka_allocator ruthvelka_standard_allocator;
 /* From now on memory comes from this allocator in this thread, or, where it is null, from where calls without a handle take it. It gives what
    was set before. */
 const struct ruthvelka_allocator *ruthvelka_lend_allocator(const struct ruthvelka_allocator *allocator);
+
+/* Whether an outcome may be written; writes it, of a module or of none, and gives the status (handles.c). */
+bool ruthvelka_may_be_told(const struct ruthvelka_outcome *it);
+uint32_t ruthvelka_tell(struct ruthvelka_outcome *to, uint32_t status, const struct ruthvelka_report *report);
+uint32_t ruthvelka_tell_nothing(struct ruthvelka_outcome *to, uint32_t status);

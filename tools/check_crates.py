@@ -10,8 +10,10 @@ import re
 import sys
 
 ROOT = os.path.dirname(os.path.dirname(os.path.abspath(__file__)))
-MOST_WALKS, MOST_CRATES, MOST_LINES, MOST_FUNCTIONS = 3_800, 76, 1_500, 110
+MOST_WALKS, MOST_CRATES, MOST_LINES, MOST_FUNCTIONS = 3_800, 77, 1_500, 110
 ALL, MOST_WALKS_OF_ALL = "test_all", 10_700
+# The side table of a function stands over the validator and over side tables, and the C library over it and over handles.
+MORE_WALKS = {"wasm_validator_tables": 8_900, "ruthvelka_c": 12_700}
 # What is passed on for users alone: the condition of `FuncValidator::op`, which their contracts name.
 FOR_USERS = {("wasm_validator_func", "specs/StackSteps")}
 LAYERS = ("wasm_spec", "wasm_readers", "wasm_operators", "wasm_typing", "wasm_items", "wasm_parser", "wasm_validat", "wasm_check", "wasm_laws_", "rows_", "test_all", "examples", "ruthvelka_c")
@@ -69,7 +71,7 @@ def main():
     graph = {name: [it for it in words if it in words_of] for name, words in words_of.items()}
     sources = {name: read_sources(name) for name in graph}
     walks, wrong = count_walks(graph), []
-    most = {ALL: MOST_WALKS_OF_ALL}
+    most = {ALL: MOST_WALKS_OF_ALL, **MORE_WALKS}
     wrong += [f"{name}: {count} walks lead down from it, more than {most.get(name, MOST_WALKS)}" for name, count in walks.items() if count > most.get(name, MOST_WALKS)]
     if len(graph) > MOST_CRATES:
         wrong.append(f"{len(graph)} crates, more than {MOST_CRATES}")

@@ -19,7 +19,7 @@ static const struct ruthvelka_extern imports_of_user[] = {EXTERN(0, 1, 1, 1, 0, 
 static const struct ruthvelka_extern exports_of_user[] = {EXTERN(11, 0, 11, 1, 32, 3)};
 static const char names_of_user[] = "axafirstam0h";
 
-#define ALL_FEATURES ((RUTHVELKA_STACK_SWITCHING_OPERATORS << 1) - 1 - RUTHVELKA_CRATE_LIMITS)
+#define ALL_FEATURES ((RUTHVELKA_COMPACT_IMPORTS << 1) - 1 - RUTHVELKA_CRATE_LIMITS)
 #define STANDARD UINT64_C(32703)
 static const struct ruthvelka_report report_on_one_memory = {.verdict = 0, .function = NOWHERE, .memories = 1};
 static const struct facts modules[] = {

@@ -4,7 +4,7 @@
 #include <stdio.h>
 #include <string.h>
 
-#define ALL ((RUTHVELKA_STACK_SWITCHING_OPERATORS << 1) - 1 - RUTHVELKA_CRATE_LIMITS)
+#define ALL ((RUTHVELKA_COMPACT_IMPORTS << 1) - 1 - RUTHVELKA_CRATE_LIMITS)
 static long wrong;
 
 /* Validates a module with a memory and a function whose body is `unreachable`, these bytes, `unreachable` and `end`. The bytes begin at byte 29. */

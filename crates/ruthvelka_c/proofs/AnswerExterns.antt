@@ -6,7 +6,7 @@ use Rattle.wasm_validator_handles.specs.declared.entities.ExternType.{ExternType
 use Rattle.wasm_validator_handles.specs.declared.entities.Externs as gathered
 use Rattle.ruthvelka_c.specs.declared.report.Report.{Report}
 use Rattle.ruthvelka_c.specs.Answers.{Answer}
-use Rattle.ruthvelka_c.specs.Arrays.{AreWritten, HasText}
+use Rattle.wasm_validator_handles.specs.Arrays.{AreWritten, HasText}
 use Rattle.ruthvelka_c.specs.Externs.{AreGathered, ExternsStay, ExternsTell, GivesExterns}
 
 pub gives :

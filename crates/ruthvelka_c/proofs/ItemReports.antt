@@ -4,7 +4,7 @@ use Rattle.std.proofs.Math.ListN.{set}
 use Rattle.std.proofs.lemmas.List.{length-set}
 use Rattle.std.proofs.lemmas.Option.{slice_get_within}
 use Rattle.std.specs.Prelude.{min}
-use Rattle.ruthvelka_c.specs.Arrays.{AreTold}
+use Rattle.wasm_validator_handles.specs.Arrays.{AreTold}
 
 -- items are told by their places up to this one, and all from it on are as they were
 pub record ToldUpto {X : Type 0} (P : ℕ → X → Type 0) (i : ℕ) (old new : List X) : Type 0 where

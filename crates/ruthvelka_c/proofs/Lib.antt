@@ -4,4 +4,3 @@ pub mod AnswerExterns
 pub mod FunctionIds
 pub mod ItemReports
 pub mod Verdicts
-pub mod ArrayWrites

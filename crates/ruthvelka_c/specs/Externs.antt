@@ -12,7 +12,7 @@ use Rattle.wasm_validator_handles.specs.WasmValidator.Verdict.{DecidesAlone}
 use Rattle.ruthvelka_c.specs.declared.report.Report.{Report}
 use Rattle.ruthvelka_c.specs.Answers.{Answer}
 use Rattle.ruthvelka_c.specs.Reports.{Tells, flags}
-use Rattle.ruthvelka_c.specs.Arrays.{AreWritten, AreTold}
+use Rattle.wasm_validator_handles.specs.Arrays.{AreWritten, AreTold}
 
 abbrev pub AreGathered : Answer → gathered.Externs → Type 0
 AreGathered (Ok t) e = AreOf (shown_of t).spaces e.imports.items e.exports.items e.names.items

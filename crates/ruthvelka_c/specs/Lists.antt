@@ -11,7 +11,7 @@ use Rattle.ruthvelka_c.specs.declared.report.Report.{Report}
 use Rattle.ruthvelka_c.specs.declared.report.TheConstants.{NOT_CHECKED}
 use Rattle.ruthvelka_c.specs.declared.lists.Bytes.{Bytes}
 use Rattle.ruthvelka_c.specs.Answers.{Answer}
-use Rattle.ruthvelka_c.specs.Arrays.{AreTold, AreWritten}
+use Rattle.wasm_validator_handles.specs.Arrays.{AreTold, AreWritten}
 use Rattle.ruthvelka_c.specs.declared.queries.Query.{Query}
 use Rattle.ruthvelka_c.specs.Queries.{QueriesTell}
 use Rattle.ruthvelka_c.specs.Reports.{Tells, flags, function_ids}

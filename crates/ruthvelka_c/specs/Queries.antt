@@ -17,7 +17,7 @@ use Rattle.wasm_validator_handles.specs.WasmValidator.WasmValidatorTypes.WasmVal
 use Rattle.ruthvelka_c.specs.declared.queries.Query.{Query}
 use Rattle.ruthvelka_c.specs.declared.queries.TheConstants.{IS_SUBTYPE, MAY_BE_GIVEN, YES, NO, UNKNOWN}
 use Rattle.ruthvelka_c.specs.Answers.{Answer}
-use Rattle.ruthvelka_c.specs.Arrays.{AreTold}
+use Rattle.wasm_validator_handles.specs.Arrays.{AreTold}
 
 -- the types of an accepted module
 abbrev pub accepted : Answer → Option (shown.Types Global)

@@ -14,7 +14,7 @@ use Rattle.wasm_validator_handles.specs.Entities.{counted}
 use Rattle.ruthvelka_c.specs.declared.report.Report.{Report}
 use Rattle.ruthvelka_c.specs.declared.report.TheConstants.{VALID, REFUSED, NO_MEMORY, NO_FUNCTION}
 use Rattle.ruthvelka_c.specs.Answers.{Answer}
-use Rattle.ruthvelka_c.specs.Arrays.{AreWritten}
+use Rattle.wasm_validator_handles.specs.Arrays.{AreWritten}
 
 -- the proposals of these bits
 abbrev pub flags : ℕ → WasmFeatures

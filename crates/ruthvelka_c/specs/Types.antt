@@ -15,7 +15,7 @@ use Rattle.wasm_validator_handles.specs.declared.values.ValueType.{ValueType}
 use Rattle.ruthvelka_c.specs.declared.handles.TheConstants.{STATUS_DONE, STATUS_NO_MEMORY, STATUS_WRONG}
 use Rattle.ruthvelka_c.specs.declared.report.Report.{Report}
 use Rattle.ruthvelka_c.specs.declared.types.Counts.{Counts}
-use Rattle.ruthvelka_c.specs.Arrays.{AreTold, AreWritten}
+use Rattle.wasm_validator_handles.specs.Arrays.{AreTold, AreWritten}
 use Rattle.ruthvelka_c.specs.Reports.{TellsCounts}
 
 -- these stand in the array from its beginning, as far as there is room, and all behind them is as it was

@@ -5,13 +5,13 @@ ghost use Rattle.wasm_validator_handles.specs.WasmValidator.Verdict.{DecidesAlon
 ghost use Rattle.ruthvelka_c.specs.Lists.{AreAnswered, bytes_of};
 ghost use Rattle.ruthvelka_c.specs.Reports.{GivesIds, IsWithin, flags};
 
-use crate::arrays::{write_function_ids, write_type_ids};
 use crate::lists::{Bytes, lend};
 use crate::report::Answer;
 use std::alloc::{AllocError, Global};
 use wasm_validator_handles::validator::{
     Flags, Validator, ValidatorId, WasmFeatures, validate_list,
 };
+use wasm_validator_handles::{write_function_ids, write_type_ids};
 
 /// What a new validator with these proposals answers on these bytes.
 pub fn answer_alone(alloc: Global, bytes: &[u8], features: u64) -> Answer

@@ -2,14 +2,13 @@
 
 ghost use Rattle.std.specs.Prelude.{◌≡◌, ◌<◌, IfOk, length, slice_get, Some};
 ghost use Rattle.std.specs.Option.{option_map};
-ghost use Rattle.ruthvelka_c.specs.Arrays.{AreWritten};
+ghost use Rattle.wasm_validator_handles.specs.Arrays.{AreWritten};
 ghost use Rattle.wasm_validator_handles.specs.Entities.{plain_of};
 ghost use Rattle.ruthvelka_c.specs.Externs.{AreGathered, ExternsTell};
 
-use crate::arrays::write_bytes;
 use crate::report::Answer;
 use std::alloc::{AllocError, Global};
-use wasm_validator_handles::{Extern, ExternType, Externs, gather_externs};
+use wasm_validator_handles::{Extern, ExternType, Externs, gather_externs, write_bytes};
 
 /// Those of an accepted module, and none where it is refused.
 pub fn gather_answer(alloc: Global, answer: &Answer) -> Result<Externs, AllocError>

@@ -1,16 +1,13 @@
 //! Validators, and the types of modules, behind handles that C keeps between calls.
 
-ghost use Rattle.std.specs.Prelude.{◌≡◌, ◌⊎◌, length, nat_lt};
-ghost use Rattle.std.specs.Bool.{Decides};
+ghost use Rattle.std.specs.Prelude.{◌≡◌, ◌⊎◌};
 ghost use Rattle.std.specs.declared.option.Option.TheVariants.{None as Nothing, Some as Just};
-ghost use Rattle.wasm_validator_handles.specs.HandleContents.{AreTypes, Answers, types_of, validator_of};
+ghost use Rattle.wasm_validator_handles.specs.HandleContents.{AreTypes, types_of, validator_of};
 ghost use Rattle.wasm_validator_handles.specs.WasmValidator.ValidatorStages.{fresh};
-ghost use Rattle.wasm_validator_handles.specs.WasmValidator.WasmValidatorTypes.ShownModules.{shown_by};
-ghost use Rattle.ruthvelka_c.specs.Arrays.{HasText};
+ghost use Rattle.wasm_validator_handles.specs.Arrays.{HasText};
 ghost use Rattle.ruthvelka_c.specs.Handles.{AreModuleHere, SaysLinked, SaysMatching, SaysSubtype, TellsAnswer, TellsIds, TellsOn, TellsReset, answer_of, error_status, refusal_status};
 ghost use Rattle.ruthvelka_c.specs.Reports.{flags};
 
-use crate::arrays::{write_function_ids, write_type_ids};
 use crate::lists::not_checked;
 use crate::queries::{UNKNOWN, judge_below, nth_export, nth_import, say, say_given};
 use crate::report::{Answer, Report, report_counts, report_of, report_refusal, write_message};
@@ -18,7 +15,10 @@ use std::alloc::Global;
 use wasm_validator_handles::validator::{
     CoreTypeId, Error, Flags, Types, Validator, ValidatorId, WasmFeatures,
 };
-use wasm_validator_handles::{Handle, Kept, NotAsked, ValueType, are_one, longer, match_values};
+use wasm_validator_handles::{
+    Handle, Kept, NotAsked, ValueType, are_one, longer, match_values, write_function_ids,
+    write_type_ids,
+};
 
 /// It was done.
 pub const STATUS_DONE: u32 = 16;
@@ -121,7 +121,8 @@ fn tell_answer(
     }
 }
 
-fn error_status(error: &Error) -> u32
+/// The status of a refusal, and of want of memory.
+pub fn error_status(error: &Error) -> u32
     ensures { result ≡ error_status error.now }
 {
     match error {

@@ -6,24 +6,23 @@ ghost use Rattle.std.specs.Prelude.{◌≡◌, ◌≤◌, ◌⊎◌, length, map
 ghost use Rattle.bitflags.specs.Sets.{known_bits};
 ghost use Rattle.wasm_validator_handles.specs.Names.{bits_named};
 ghost use Rattle.wasm_validator_handles.specs.WasmValidator.Verdict.{AreModule, AreNoModule};
-ghost use Rattle.ruthvelka_c.specs.Arrays.{HasText};
+ghost use Rattle.wasm_validator_handles.specs.Arrays.{HasText};
 ghost use Rattle.ruthvelka_c.specs.Externs.{ToldWithExterns};
 ghost use Rattle.ruthvelka_c.specs.Lists.{ListStays, QueriesStay, ToldList, ToldQueries, bytes_of};
 ghost use Rattle.ruthvelka_c.specs.Names.{HasName};
 ghost use Rattle.ruthvelka_c.specs.Reports.{Told, ToldWithIds, flags};
 
 mod answers;
-mod arrays;
 mod externs;
 mod handles;
 mod lists;
 mod queries;
 mod report;
 mod sections;
+mod side_tables;
 mod types;
 
 use answers::{answer_alone, answer_list, write_ids};
-use arrays::{write_name, write_numbers};
 use externs::{gather_answer, write_all};
 pub use lists::Bytes;
 use lists::{gather_functions, gather_types, write_reports};
@@ -34,7 +33,7 @@ pub use report::{NO_FUNCTION, NO_MEMORY, NOT_CHECKED, REFUSED, Report, VALID};
 use std::alloc::Global;
 pub use wasm_validator_handles::Extern;
 use wasm_validator_handles::validator::{Flags, WasmFeatures};
-use wasm_validator_handles::{all_features, find_feature, find_name};
+use wasm_validator_handles::{all_features, find_feature, find_name, write_name, write_numbers};
 
 /// The version of the library, as major · 1,000,000 + minor · 1,000 + patch.
 #[unsafe(no_mangle)]

@@ -1,10 +1,10 @@
 //! Lists of modules, which share one space of ids.
 
-ghost use Rattle.std.specs.Prelude.{◌≡◌, ◌++◌, IfOk, OnOk, length, map};
+ghost use Rattle.std.specs.Prelude.{◌≡◌, ◌++◌, IfOk, OnOk, map};
 ghost use Rattle.std.specs.List.{flat_map};
 ghost use Rattle.wasm_validator_handles.specs.WasmValidator.WasmValidatorTypes.ShownModules.{shown_by};
 ghost use Rattle.ruthvelka_c.specs.Lists.{ReportsTell, bytes_of, answered_on, types_of, functions_of};
-ghost use Rattle.ruthvelka_c.specs.Reports.{Tells, function_ids};
+ghost use Rattle.ruthvelka_c.specs.Reports.{function_ids};
 
 use crate::report::{Answer, NOT_CHECKED, Report, report_no_memory, report_of};
 use std::alloc::{AllocError, Global};

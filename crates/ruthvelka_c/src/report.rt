@@ -3,14 +3,13 @@
 ghost use Rattle.std.specs.Prelude.{◌≡◌};
 ghost use Rattle.std.specs.declared.result.Result.TheVariants.{Err};
 ghost use Rattle.wasm_validator_handles.specs.WasmValidator.WasmValidatorCore.declared.error.Error.TheVariants.{OutOfMemory};
-ghost use Rattle.ruthvelka_c.specs.Arrays.{HasText};
+ghost use Rattle.wasm_validator_handles.specs.Arrays.{HasText};
 ghost use Rattle.ruthvelka_c.specs.Reports.{Tells, TellsCounts, TellsRefusal, bits_of, verdict_of};
 ghost use Rattle.wasm_validator_handles.specs.WasmValidator.WasmValidatorTypes.ShownModules.{shown_by};
 
-use crate::arrays::write_text;
 use std::alloc::Global;
 use wasm_validator_handles::validator::{Error, Flags, Types, TypesRef, WasmFeatures};
-use wasm_validator_handles::{count_exports, count_imports};
+use wasm_validator_handles::{count_exports, count_imports, write_text};
 
 /// The verdict where the bytes are a valid module.
 pub const VALID: u32 = 0;

@@ -10,13 +10,13 @@ ghost use Rattle.wasm_validator_handles.specs.Values.{numbers_of};
 ghost use Rattle.wasm_validator_handles.specs.declared.values.TheConstants.{MOST_IDS};
 ghost use Rattle.ruthvelka_c.specs.Types.{TellsExterns, TellsFunction, TellsSignature, TypesTell, ValuesTell};
 
-use crate::arrays::write_bytes;
 use crate::handles::{STATUS_DONE, STATUS_NO_MEMORY, STATUS_WRONG};
 use crate::report::{Report, report_counts};
 use std::alloc::Global;
 use wasm_validator_handles::validator::ValType;
 use wasm_validator_handles::{
     ExternType, Handle, Kept, Signature, ValueType, find_signature, gather_externs, tell_value,
+    write_bytes,
 };
 
 /// How many values a function takes and gives. C reads it as part of `struct ruthvelka_signature`.

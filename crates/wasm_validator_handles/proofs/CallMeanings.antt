@@ -1,19 +1,15 @@
 -- From calls on one handle to what they say of all modules.
 use Rattle.std.proofs.Common.{◌≡◌, refl, sym, ap, subst, ◌∙◌, ◌⊎◌, inl, inr, ℕ, Bool, true, false, true≢false, List, [], ◌∷◌, Option, Some, None}
-use Rattle.std.specs.declared.result.Result.{Result}
 use Rattle.std.specs.declared.result.Result.TheVariants.{Ok, Err}
-use Rattle.std.specs.declared.alloc.Global.{Global}
 use Rattle.wasm_validator.specs.ValidatorStages.{Stage, unparsed, in_module, in_code, ended, failed, Standing, can_reset_at, may_reset, reset_at, after_reset}
 use Rattle.wasm_validator.specs.Verdict.{DecidesModule, EndsModule, StopsModule}
 use Rattle.wasm_validator.specs.WasmValidatorTypes.declared.shown.Types as shown
-use Rattle.wasm_validator.specs.WasmValidatorCore.declared.error.Error.{Error}
 use Rattle.wasm_validator.specs.Lists.{DecidesEach}
 use Rattle.wasm_validator.proofs.Headline.{headline}
 use Rattle.wasm_validator_handles.specs.declared.kept.Kept.{Kept}
 use Rattle.wasm_validator_handles.specs.declared.kept.Kept.TheVariants.{Validator, Types}
-use Rattle.wasm_validator_handles.specs.declared.kept.NotAsked.{NotAsked}
 use Rattle.wasm_validator_handles.specs.declared.kept.NotAsked.TheVariants.{NoValidator, HasFailed}
-use Rattle.wasm_validator_handles.specs.Calls.{ModuleAnswer, IsNoAcceptance, Call, validate, reset, CallAnswers, CallsAnswer, CallAnswersNext, CallsAnswerNext, AreGiven, SayOfAll, CallsSayOfAll}
+use Rattle.wasm_validator_handles.specs.Calls.{ModuleAnswer, IsNoAcceptance, Call, validate, reset, CallAnswers, CallsAnswer, CallAnswersNext, CallsAnswerNext, AreGiven, CallsSayOfAll}
 use Rattle.wasm_validator.proofs.UnmovedValidators.{IsBefore, stays}
 
 -- ---- where a validator stands behind a reset

@@ -8,3 +8,4 @@ pub mod Entities
 pub mod Signatures
 pub mod Calls
 pub mod Names
+pub mod Arrays

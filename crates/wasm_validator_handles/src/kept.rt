@@ -3,8 +3,6 @@
 ghost use Rattle.std.specs.Prelude.{◌≡◌};
 ghost use Rattle.std.specs.Option.{option_map};
 ghost use Rattle.std.specs.declared.option.Option.TheVariants.{Some as Just};
-ghost use Rattle.wasm_validator.specs.ValidatorStages.{may_reset, after_reset};
-ghost use Rattle.wasm_validator.specs.Verdict.{DecidesModule};
 ghost use Rattle.wasm_validator_handles.specs.HandleContents.{Answers, AnswersNext, Resets, ResetsNext, Shares, types_of};
 
 use std::alloc::{AllocError, Global};

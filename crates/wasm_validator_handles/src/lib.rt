@@ -1,8 +1,9 @@
 //! What a caller without ownership keeps between calls: a validator, or the types of a module that
-//! it accepted, behind a handle of one word; and these types as numbers. `ruthvelka_c` gives both to
-//! C.
+//! it accepted, behind a handle of one word; these types as numbers; and what is written into its
+//! arrays. `ruthvelka_c` gives all of them to C.
 #![tactic(auto)]
 
+mod arrays;
 mod entities;
 mod handle;
 mod kept;
@@ -13,6 +14,9 @@ mod pairs;
 mod signatures;
 mod values;
 
+pub use arrays::{
+    write_bytes, write_function_ids, write_name, write_numbers, write_text, write_type_ids,
+};
 pub use entities::{Extern, ExternType, Externs, count_exports, count_imports, gather_externs};
 pub use handle::Handle;
 pub use kept::{Answer, Kept, NotAsked};

@@ -1,5 +1,5 @@
 use Rattle.std.proofs.Common.{ℕ, List, length, ap, subst, ◌∙◌}
-use Rattle.ruthvelka_c.specs.Arrays.{AreWritten}
+use Rattle.wasm_validator_handles.specs.Arrays.{AreWritten}
 use Rattle.ruthvelka_c.proofs.ruthvelka_proved_feature_name.Goals as goal
 
 pub returns : goal.returns

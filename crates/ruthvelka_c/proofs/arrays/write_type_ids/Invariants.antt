@@ -1,6 +1,0 @@
-use Rattle.wasm_validator_handles.specs.WasmValidator.WasmValidatorTypes.ShownModules.{shown_by}
-use Rattle.ruthvelka_c.proofs.ArrayWrites.{Upto}
-use Rattle.ruthvelka_c.proofs.arrays.write_type_ids.Given as goal
-
-abbrev pub invariant-types : goal.invariant-types
-invariant-types g l = Upto (shown_by l.types).spaces.types l.index l.initial.to l.to

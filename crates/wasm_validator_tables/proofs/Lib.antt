@@ -1,0 +1,2 @@
+mod BodySearch
+mod EntryWrites

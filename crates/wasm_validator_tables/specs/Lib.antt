@@ -1,0 +1,2 @@
+pub mod FunctionTables
+pub mod TableReports
