@@ -2,8 +2,11 @@
 use Rattle.std.proofs.Common.{◌≡◌, refl, sym, ap, subst, ◌∙◌, ⊎_elim, ℕ, ◌+◌, ◌<◌, ◌≤◌, Bool, true, false, true≢false, cond, nat_eq, List, [], ◌∷◌, ◌++◌, length, slice_get, Option, Some, None, arith}
 use Rattle.std.specs.Option.{MatchOption}
 use Rattle.std.specs.Hash.{HashWrites}
+use Rattle.std.specs.Ordering.{nat_cmp, eq_by_cmp}
+use Rattle.std.specs.Option.{option_flatten}
 use Rattle.std.proofs.lemmas.Bool.{cases_lt}
 use Rattle.std.proofs.lemmas.Bool.Decides.{Decides-eqb}
+use Rattle.std.specs.Cmp.{unsigned_tied}
 use Rattle.std.proofs.lemmas.Option.{slice_get_within}
 use Rattle.std.proofs.lemmas.List.{length_push}
 use Rattle.wasm_validator_type_groups.proofs.Places.{get-left, get-end, get-push}
@@ -145,3 +148,13 @@ module _ {X : Type 0} (F : X → HashWrites) where
           fresh = λ n l. let more_than : length gs < n = omega (arith, l, length_push gs g) in
               more.earlier n ∙ earlier-beyond (latest_of k h) n number (earlier_of k n) (omega (arith, more_than, is)) (known.fresh n (omega (arith, more_than)));
         }
+
+-- an absent key that gets nothing as its value: what is found stays
+pub flat-same : (h q : ℕ) (o : Option (Option ℕ)) (old : ℕ → Option (Option ℕ)) → old h ≡ None → o ≡ cond (eq_by_cmp nat_cmp h q) (Some None) (old q) → option_flatten o ≡ option_flatten (old q)
+flat-same h q o old absent e = ap option_flatten e ∙ at-key (eq_by_cmp nat_cmp h q) (λ same. let is : h ≡ q = (Decides-eqb h q).0 (sym (unsigned_tied h q) ∙ same) in sym (ap old is) ∙ absent)
+  where
+    at-key : (b : Bool) → (b ≡ true → old q ≡ None) → option_flatten (cond b (Some None) (old q)) ≡ option_flatten (old q)
+    at-key true none = ap option_flatten (sym (none refl))
+    at-key false none = refl
+
+pub ruleset places = (flat-same)

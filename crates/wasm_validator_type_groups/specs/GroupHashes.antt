@@ -1,22 +1,24 @@
 -- Groups that are found by their hashes: of each hash the last group with it, and of each group the last one before it with
 -- the same hash.
-use Rattle.std.specs.Prelude.{ℕ, ◌≡◌, ◌+◌, ◌<◌, ◌≤◌, nat_eq, cond, List, length, slice_get}
+use Rattle.std.specs.Prelude.{ℕ, ◌≡◌, ◌+◌, ◌<◌, ◌≤◌, nat_eq, cond, List, length, slice_get, IsSome}
+use Rattle.std.specs.BTreeMap as tree
 use Rattle.std.specs.HashMap as map
-use Rattle.std.specs.Option.{MatchOption}
+use Rattle.std.specs.Ordering.{nat_cmp}
+use Rattle.std.specs.Option.{MatchOption, option_flatten}
 use Rattle.std.specs.List.{fold}
 use Rattle.std.specs.Hash.{HashWrites, slice}
-use Rattle.std.specs.Hash.FoldHasher as folding
+use Rattle.std.specs.Hash.DefaultHasher as sip
 use Rattle.std.specs.declared.option.Option.{Option}
 use Rattle.std.specs.declared.option.Option.TheVariants.{None, Some}
 use Rattle.wasm_validator_type_groups.specs.declared.known_groups.KnownGroups.{KnownGroups}
 
 -- the hash of a group whose items are fed like this
 abbrev pub group_hash : {X : Type 0} → (X → HashWrites) → List X → ℕ
-group_hash F g = folding.finish (fold folding.write folding.initial (slice F g))
+group_hash F g = sip.finish (fold sip.write sip.initial (slice F g))
 
 -- the last group with this hash, and the last one with the hash of the group n before it
 abbrev pub latest_of : {A : Type 0} → KnownGroups A → ℕ → Option ℕ
-latest_of k h = map.get nat_eq k.latest h
+latest_of k h = option_flatten (tree.get nat_cmp k.latest h)
 
 abbrev pub earlier_of : {A : Type 0} → KnownGroups A → ℕ → Option ℕ
 earlier_of k n = map.get nat_eq k.earlier n
@@ -55,9 +57,13 @@ module _ {A : Type 0} where
     pub latest : (h : ℕ) → latest_of new h ≡ latest_of old h
     pub earlier : (n : ℕ) → earlier_of new n ≡ earlier_of old n
 
-  -- there is room for one more
-  pub record HasRoom (k : KnownGroups A) : Type 0 where
-    pub latest : 1 ≤ map.spare k.latest
+  -- the tree has a place for a group with this hash
+  abbrev pub HasPlace : KnownGroups A → ℕ → Type 0
+  HasPlace k hash = IsSome (tree.get nat_cmp k.latest hash)
+
+  -- there is room for one more with this hash
+  pub record HasRoom (k : KnownGroups A) (hash : ℕ) : Type 0 where
+    pub latest : HasPlace k hash
     pub earlier : 1 ≤ map.spare k.earlier
 
   -- the group with this number has this hash, behind those that had it

@@ -10,7 +10,7 @@ ghost use Rattle.wasm_validator_type_groups.specs.GroupHashes.{group_hash};
 use crate::known_groups::{KnownGroups, is_group};
 use crate::{GroupedList, SnapshotList};
 use std::alloc::{AllocError, Allocator, Global};
-use std::hash::{FoldHasher, Hash, Hasher};
+use std::hash::{DefaultHasher, Hash, Hasher};
 use std::marker::Model;
 use std::ops::Range;
 use wasm_readers_types::{CoreTypeId, Exact};
@@ -127,7 +127,7 @@ impl<T: Exact + Hash, A: Allocator + Copy> GroupTable<T, A> {
     pub fn hash_of(group: &[T]) -> u64
         ensures { result ≡ group_hash T.hash_input group.now }
     {
-        let mut state = FoldHasher::default();
+        let mut state = DefaultHasher::new();
         group.hash(&mut state);
         state.finish()
     }
@@ -172,7 +172,7 @@ impl<T: Exact + Hash, A: Allocator + Copy> GroupTable<T, A> {
             return self.groups.push_noted(group, notes, more);
         }
         let number = self.groups.group_count() as u32;
-        self.known.reserve()?;
+        self.known.reserve(hash)?;
         self.groups.push_noted(group, notes, more)?;
         self.known.add(hash, number);
         Ok(())

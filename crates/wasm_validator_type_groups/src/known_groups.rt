@@ -1,24 +1,26 @@
-//! Groups found by their hash: a map from each hash to the latest group that has it, and of each
+//! Groups found by their hash: a tree from each hash to the latest group that has it, and of each
 //! group the one before it with the same hash, if there is one. So a look-up compares the group
-//! with those of its hash alone, the latest first.
+//! with those of its hash alone, the latest first. The tree takes as long for hashes that are chosen
+//! as for any others.
 
 ghost use Rattle.std.specs.Prelude.{◌≡◌, ◌+◌, ◌<◌, ◌≤◌, ℕ, [], length, slice_get, OnOk};
 ghost use Rattle.std.specs.Bool.{Decides};
 ghost use Rattle.std.specs.declared.option.Option.TheVariants.{Some};
 ghost use Rattle.wasm_validator_type_groups.specs.Groups.{all_in};
 ghost use Rattle.wasm_validator_type_groups.specs.Places.{IsPlaceOf};
-ghost use Rattle.wasm_validator_type_groups.specs.GroupHashes.{group_hash, AreKnown, FindSame, HasRoom, FindsOneMore};
+ghost use Rattle.wasm_validator_type_groups.specs.GroupHashes.{group_hash, latest_of, AreKnown, FindSame, HasPlace, HasRoom, FindsOneMore};
 
 use crate::GroupedList;
 use std::alloc::{AllocError, Allocator};
-use std::collections::HashMap;
+use std::collections::{BTreeMap, HashMap};
 use std::hash::{BuildHasherDefault, FoldHasher, Hash};
 use wasm_readers_types::{Exact, same};
 
 /// Which groups a list has, by their hashes: of each hash the number of the last group with it, and
-/// of each group that of the last one before it with the same hash.
+/// of each group that of the last one before it with the same hash. A hash may be there for a group
+/// that is still to be added.
 pub(crate) struct KnownGroups<A: Allocator> {
-    latest: HashMap<u64, u32, BuildHasherDefault<FoldHasher>, A>,
+    latest: BTreeMap<u64, Option<u32>, A>,
     earlier: HashMap<u32, u32, BuildHasherDefault<FoldHasher>, A>,
 }
 
@@ -39,8 +41,18 @@ impl<A: Allocator + Copy> KnownGroups<A> {
         ensures earlier { result.earlier.entries ≡ [] }
     {
         KnownGroups {
-            latest: HashMap::new(alloc),
+            latest: BTreeMap::new(alloc),
             earlier: HashMap::new(alloc),
+        }
+    }
+
+    /// The number of the last group with this hash, if there is one.
+    fn latest_at(&self, hash: u64) -> Option<u32>
+        ensures { result ≡ latest_of self.now hash }
+    {
+        match self.latest.get(&hash) {
+            Some(number) => *number,
+            None => None,
         }
     }
 
@@ -55,7 +67,7 @@ impl<A: Allocator + Copy> KnownGroups<A> {
         requires hash { hash ≡ group_hash T.hash_input group.now }
         ensures { IsPlaceOf result groups.now group.now }
     {
-        let mut next = self.latest.get(&hash).copied();
+        let mut next = self.latest_at(hash);
         'numbers: while let Some(number) = next {
             if is_group(groups, number as usize, group) {
                 return Some(number);
@@ -65,27 +77,44 @@ impl<A: Allocator + Copy> KnownGroups<A> {
         None
     }
 
-    /// Makes room for one more group.
+    /// Makes a place for a group with this hash, where there is none.
     ///
     /// # Errors
     ///
     /// Fails where memory is refused.
-    pub fn reserve(&mut self) -> Result<(), AllocError>
-        ensures room { OnOk result (HasRoom self.new) }
+    #[tactic(auto, using(crate::proofs::HashChains::places))]
+    fn make_place(&mut self, hash: u64) -> Result<(), AllocError>
+        ensures place { OnOk result (HasPlace self.new hash) }
+        ensures same { FindSame self.old self.new }
+        ensures earlier { self.new.earlier ≡ self.old.earlier }
+    {
+        if !self.latest.contains_key(&hash) {
+            self.latest.insert(hash, None)?;
+        }
+        Ok(())
+    }
+
+    /// Makes room for one more group, which has this hash.
+    ///
+    /// # Errors
+    ///
+    /// Fails where memory is refused.
+    pub fn reserve(&mut self, hash: u64) -> Result<(), AllocError>
+        ensures room { OnOk result (HasRoom self.new hash) }
         ensures same { FindSame self.old self.new }
     {
-        self.latest.reserve(1)?;
+        self.make_place(hash)?;
         self.earlier.reserve(1)?;
         Ok(())
     }
 
     /// Adds the group with this hash and this number, for which there is room.
     pub fn add(&mut self, hash: u64, number: u32)
-        requires { HasRoom self.old }
+        requires { HasRoom self.old hash }
         ensures { FindsOneMore self.old self.new hash number }
     {
-        let replaced: Result<_, _> = self.latest.insert(hash, number);
-        if let Some(before) = replaced.unwrap() {
+        let replaced: Result<_, _> = self.latest.insert(hash, Some(number));
+        if let Some(Some(before)) = replaced.unwrap() {
             let inserted: Result<_, _> = self.earlier.insert(number, before);
             let _none = inserted.unwrap();
         }

@@ -6,12 +6,12 @@ pub numbers-smaller : goal.numbers-smaller
 numbers-smaller g c =
     let F = g.T.Hash.hash_input in
     let u = subst (IsLeft F c.args.groups.now c.args.group.now) c.in-Some.is c.numbers.invariant in
-    subst (λ o. steps_left c.copied-next-in-Some.result < steps_left o) (sym c.in-Some.is)
-    (steps_fall F c.args.self.now c.args.groups.now c.args.group.now c.in-Some.number c.copied-next-in-Some.result c.requires.known u (c.copied-next-in-Some.ensures ∙ c.get-in-Some.ensures.value))
+    subst (λ o. steps_left c.copied-next.result < steps_left o) (sym c.in-Some.is)
+    (steps_fall F c.args.self.now c.args.groups.now c.args.group.now c.in-Some.number c.copied-next.result c.requires.known u (c.copied-next.ensures ∙ c.get.ensures.value))
 
 pub numbers-preserved : goal.numbers-preserved
 numbers-preserved g c =
     let F = g.T.Hash.hash_input in
     let u = subst (IsLeft F c.args.groups.now c.args.group.now) c.in-Some.is c.numbers.invariant in
-    subst (IsLeft F c.args.groups.now c.args.group.now) (sym (c.copied-next-in-Some.ensures ∙ c.get-in-Some.ensures.value))
+    subst (IsLeft F c.args.groups.now c.args.group.now) (sym (c.copied-next.ensures ∙ c.get.ensures.value))
     (left-next F c.args.self.now c.args.groups.now c.args.group.now c.in-Some.number c.requires.known u (λ e. true≢false (sym (c.is_group.ensures.1 e) ∙ c.if-is_group.false)))
