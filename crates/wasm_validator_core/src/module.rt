@@ -136,6 +136,14 @@ impl<A: Allocator + Copy> Module<A> {
         }
     }
 
+    /// Has the names of imports and exports found by a key that is made of these bytes, where there
+    /// are none yet: those of the section that they stand in.
+    pub fn key_names(&mut self, bytes: &[u8])
+        ensures { self.new ≡ self.old }
+    {
+        self.spaces.key_names(bytes);
+    }
+
     /// Adds an import. `offset` is where it stands in the input (Core Specification 3.0,
     /// Validation, Modules, Imports).
     ///

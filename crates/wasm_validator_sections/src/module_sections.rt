@@ -123,6 +123,7 @@ pub fn add_imports<'a, A: Allocator + Copy>(
     ensures told { IfErr result (OfContent (TellsImports features section.now
         (types_of_list list.now) opened.old)) }
 {
+    opened.key_names(section.reader().remaining());
     if features.compact_imports() {
         add_entries(features, list, opened, section)
     } else {
@@ -344,6 +345,7 @@ pub fn add_exports<'a, A: Allocator + Copy>(
     ensures told { IfErr result (OfContent (TellsExports features section.now
         (types_of_list list.now) state.old.«module»)) }
 {
+    state.module.key_names(section.reader().remaining());
     let mut kind = ExportItems {
         features,
         alloc: &alloc,

@@ -4,5 +4,6 @@ pub mod Spaces
 pub mod SpacesSeen
 pub mod Rows
 pub mod IteratorItems
+pub mod NameKeys
 pub mod NamedEntities
 pub mod ShownModules

@@ -14,24 +14,37 @@ ghost use Rattle.wasm_validator_types.specs.Rows.{all_imports};
 ghost use Rattle.wasm_validator_types.specs.SpacesSeen.{numbers, PutsAt, AddsToPair};
 
 use crate::imports_exports::{CoreExports, CoreImports};
+use crate::name_keys::NameKey;
 use indexmap::IndexMap;
 use std::alloc::{AllocError, Allocator, Global};
-use std::hash::{BuildHasherDefault, FoldHasher};
 use std::marker::Model;
 use wasm_readers::readers_types::{
     CoreTypeId, EntityType, GlobalType, Items, MemoryType, RefType, TableType,
 };
 
 /// What is imported under each pair of names.
-pub(crate) type ImportMap<A> = IndexMap<
-    (String<A>, String<A>),
-    Items<EntityType, A>,
-    BuildHasherDefault<FoldHasher>,
-    A,
->;
+pub(crate) type ImportMap<A> = IndexMap<(String<A>, String<A>), Items<EntityType, A>, NameKey, A>;
 
 /// What is exported under each name.
-pub(crate) type ExportMap<A> = IndexMap<String<A>, EntityType, BuildHasherDefault<FoldHasher>, A>;
+pub(crate) type ExportMap<A> = IndexMap<String<A>, EntityType, NameKey, A>;
+
+/// Has imports found by this key, where there are none.
+fn key_imports<A: Allocator + Copy>(imports: &mut ImportMap<A>, alloc: A, key: NameKey)
+    ensures { imports.new.entries ≡ imports.old.entries }
+{
+    if imports.is_empty() {
+        *imports = IndexMap::with_hasher(alloc, key);
+    }
+}
+
+/// Has exports found by this key, where there are none.
+fn key_exports<A: Allocator + Copy>(exports: &mut ExportMap<A>, alloc: A, key: NameKey)
+    ensures { exports.new.entries ≡ exports.old.entries }
+{
+    if exports.is_empty() {
+        *exports = IndexMap::with_hasher(alloc, key);
+    }
+}
 
 /// The index spaces of a module, as far as it has been read. A contract sees them as lists.
 pub struct IndexSpaces<A: Allocator = Global> {
@@ -97,11 +110,21 @@ impl<A: Allocator + Copy> IndexSpaces<A> {
             imported_globals: 0,
             tags: Vec::new(alloc),
             elements: Vec::new(alloc),
-            imports: IndexMap::new(alloc),
-            exports: IndexMap::new(alloc),
+            imports: IndexMap::with_hasher(alloc, NameKey::of(&[])),
+            exports: IndexMap::with_hasher(alloc, NameKey::of(&[])),
             size: 1,
             alloc,
         }
+    }
+
+    /// Has names found by a key that is made of these bytes, where there are none yet. The bytes are
+    /// those of a section, so that whoever chooses its names can't choose the key by itself.
+    pub fn key_names(&mut self, bytes: &[u8])
+        ensures { self.new ≡ self.old }
+    {
+        let key = NameKey::of(bytes);
+        key_imports(&mut self.imports, self.alloc, key);
+        key_exports(&mut self.exports, self.alloc, key);
     }
 
     /// The number of types.

@@ -5,6 +5,7 @@
 mod id;
 mod imports_exports;
 pub mod index_spaces;
+mod name_keys;
 mod named;
 mod shown;
 
