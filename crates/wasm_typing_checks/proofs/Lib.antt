@@ -10,3 +10,4 @@ pub mod IndexedTypes
 pub mod KnownLists
 pub mod KnownOperands
 pub mod InnermostOperands
+pub mod WrittenTypes

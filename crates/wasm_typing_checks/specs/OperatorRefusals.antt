@@ -9,9 +9,12 @@ use Rattle.wasm_validator_resources.specs.WasmReadersErrors.declared.error.Error
 use Rattle.wasm_validator_resources.specs.WasmReadersErrors.declared.error.Fault.{Fault}
 use Rattle.wasm_validator_resources.specs.WasmReadersErrors.declared.error.Fault.TheVariants as fault
 use Rattle.wasm_validator_resources.specs.WasmReadersErrors.declared.error.Refusal.{Refusal}
+use Rattle.wasm_validator_resources.specs.WasmReadersErrors.declared.error.Rule.TheVariants as type_rule
 use Rattle.wasm_validator_resources.specs.WasmReadersErrors.LiftingProposals.{lifting}
+use Rattle.wasm_validator_resources.specs.WasmReadersErrors.WasmReadersFeatures.declared.features.WasmFeatures.{WasmFeatures}
 use Rattle.wasm_validator_resources.specs.WasmReadersErrors.WasmReadersFeatures.declared.operator_rules.OperatorRule.{OperatorRule}
 use Rattle.wasm_validator_resources.specs.WasmReadersErrors.WasmReadersFeatures.declared.operator_rules.OperatorRule.TheVariants as rule
+use Rattle.wasm_validator_resources.specs.ProposalRefusals.{told_of_val}
 use Rattle.wasm_typing_stacks.specs.SeenTypeWords.{val_in}
 use Rattle.wasm_typing_stacks.specs.WasmSpecSteps.Machine as machine
 use Rattle.wasm_typing_stacks.specs.WasmSpecSteps.Machine.{known}
@@ -53,3 +56,26 @@ abbrev pub TellsError : OperatorError → ℕ → Error → Type 0
 TellsError (Refused f) offset (error.Refused r) = Tells f offset r
 TellsError OutOfMemory offset error.OutOfMemory = ⊤
 TellsError _ offset _ = ⊥
+
+-- The rule by which an operator is refused that writes a value type, where the type is refused for this fault, and the index
+-- that is told: that of the type which the module doesn't have, and 0 for a type that it lacks a proposal for.
+abbrev pub rule_of_type : Fault → OperatorRule
+rule_of_type (fault.Rule type_rule.Floats) = rule.Floats
+rule_of_type (fault.Rule type_rule.Simd) = rule.Simd
+rule_of_type (fault.ValueType r) = rule.ReferenceProposal r
+rule_of_type (fault.UnknownType i) = rule.UnknownType
+rule_of_type _ = rule.ValueType
+
+abbrev pub index_of_type : Fault → ℕ
+index_of_type (fault.UnknownType i) = i
+index_of_type _ = 0
+
+-- it is the refusal of some value type for want of a proposal
+abbrev pub IsLackOfType : Refusal → Type 0
+IsLackOfType r = (features : WasmFeatures) × (offset : ℕ) × (v : Val UnpackedIndex) × (told_of_val features offset v ≡ Some r)
+
+-- An operator is refused as the type is that it writes: by its rule, and for want of the same proposal.
+pub record TellsType (r : Refusal) (f : OperatorFault) : Type 0 where
+  pub rule : f.rule ≡ rule_of_type r.fault
+  pub index : f.number ≡ index_of_type r.fault
+  pub missing : lifting f.rule ≡ r.missing

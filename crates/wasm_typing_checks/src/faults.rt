@@ -2,7 +2,7 @@
 
 ghost use Rattle.std.specs.Prelude.{◌≡◌};
 ghost use Rattle.wasm_typing_checks.specs.declared.faults.OperatorError.TheVariants.{Refused, OutOfMemory};
-ghost use Rattle.wasm_typing_checks.specs.OperatorRefusals.{is_operand};
+ghost use Rattle.wasm_typing_checks.specs.OperatorRefusals.{is_operand, rule_of_type, index_of_type};
 
 use std::alloc::AllocError;
 use wasm_typing_stacks::operators_plain::NumberType;
@@ -33,23 +33,38 @@ fn is_operand(rule: OperatorRule) -> bool
     }
 }
 
-impl OperatorFault {
-    ghost use Rattle.wasm_typing_checks.specs.OperatorRefusals.{TellsOperand, Tells};
-
-    /// A rule that has no number.
-    #[inline(never)]
-    pub fn new(rule: OperatorRule) -> OperatorFault {
-        OperatorFault {
-            rule,
-            number: 0,
-            expected: TypeWord::number(NumberType::I32),
-            found: None,
-        }
+/// The rule by which an operator is refused that writes a value type, where the type is refused for
+/// this fault.
+fn rule_of_type(fault: Fault) -> OperatorRule
+    ensures { result ≡ rule_of_type fault }
+{
+    match fault {
+        Fault::Rule(Rule::Floats) => OperatorRule::Floats,
+        Fault::Rule(Rule::Simd) => OperatorRule::Simd,
+        Fault::ValueType(rule) => OperatorRule::ReferenceProposal(rule),
+        Fault::UnknownType(_) => OperatorRule::UnknownType,
+        _ => OperatorRule::ValueType,
     }
+}
 
-    /// A rule on this index.
-    #[inline(never)]
-    pub fn at(rule: OperatorRule, number: u32) -> OperatorFault {
+/// The type index that is told then, and 0 where the fault is of none.
+fn index_of_type(fault: Fault) -> u32
+    ensures { result ≡ index_of_type fault }
+{
+    match fault {
+        Fault::UnknownType(index) => index,
+        _ => 0,
+    }
+}
+
+impl OperatorFault {
+    ghost use Rattle.wasm_typing_checks.specs.OperatorRefusals.{TellsOperand, Tells, TellsType, IsLackOfType, rule_of_type, index_of_type};
+
+    /// A rule with its number, and no operand.
+    fn plain(rule: OperatorRule, number: u32) -> OperatorFault
+        ensures rule { result.rule ≡ rule }
+        ensures number { result.number ≡ number }
+    {
         OperatorFault {
             rule,
             number,
@@ -58,17 +73,28 @@ impl OperatorFault {
         }
     }
 
+    /// A rule that has no number.
+    #[inline(never)]
+    pub fn new(rule: OperatorRule) -> OperatorFault {
+        OperatorFault::plain(rule, 0)
+    }
+
+    /// A rule on this index.
+    #[inline(never)]
+    pub fn at(rule: OperatorRule, number: u32) -> OperatorFault {
+        OperatorFault::plain(rule, number)
+    }
+
     /// Why a value type may not be written: for want of a proposal, which is named, or since the
     /// module doesn't have the type of its index.
     #[inline(never)]
-    pub fn written_type(refusal: Refusal) -> OperatorFault {
-        match refusal.fault {
-            Fault::Rule(Rule::Floats) => OperatorFault::new(OperatorRule::Floats),
-            Fault::Rule(Rule::Simd) => OperatorFault::new(OperatorRule::Simd),
-            Fault::ValueType(rule) => OperatorFault::new(OperatorRule::ReferenceProposal(rule)),
-            Fault::UnknownType(index) => OperatorFault::at(OperatorRule::UnknownType, index),
-            _ => OperatorFault::new(OperatorRule::ValueType),
-        }
+    #[tactic(auto, using(crate::proofs::WrittenTypes::lacks))]
+    pub fn written_type(refusal: Refusal) -> OperatorFault
+        ensures rule { result.rule ≡ rule_of_type refusal.fault }
+        ensures index { result.number ≡ index_of_type refusal.fault }
+        ensures lack { IsLackOfType refusal → TellsType refusal result }
+    {
+        OperatorFault::plain(rule_of_type(refusal.fault), index_of_type(refusal.fault))
     }
 
     /// An operand of this type is expected, and this one is found, or none.
