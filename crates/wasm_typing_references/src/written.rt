@@ -1,15 +1,17 @@
 //! Heap types as they are written: by features, and by what the module has.
 
-ghost use Rattle.std.specs.Prelude.{◌≡◌, ◌&&◌, ◌||◌};
+ghost use Rattle.std.specs.Prelude.{◌≡◌, ◌&&◌, ◌||◌, ℕ, IfSome};
 ghost use Rattle.std.specs.Option.{option_map};
 ghost use Rattle.wasm_typing_control.specs.WasmSpec.Syntax.{map_heap};
 ghost use Rattle.wasm_typing_control.specs.WasmSpec.ValueTypes.{allows_val};
 ghost use Rattle.wasm_typing_control.specs.WasmTypingChecks.WasmSpecRules.FeatureFlags.{features_of};
-ghost use Rattle.wasm_typing_control.specs.WasmReadersTypes.WasmReadersValues.SeenValues.{heap_of, ref_of};
+ghost use Rattle.wasm_typing_control.specs.WasmReadersTypes.WasmReadersValues.SeenValues.{heap_of, ref_of, HeapFits};
 ghost use Rattle.wasm_typing_control.specs.WasmOperators.References.{reference_to};
 ghost use Rattle.wasm_typing_control.specs.WasmTypingChecks.WasmSpecRules.Signatures.{resolve_ref};
 ghost use Rattle.wasm_typing_control.specs.WasmTypingChecks.WasmSpecSteps.Shapes.{reference_to as val_to};
 ghost use Rattle.wasm_typing_control.specs.WasmTypingChecks.WasmValidatorResources.Answers.{IsWrittenHeap, written_index};
+ghost use Rattle.wasm_typing_control.specs.WasmTypingChecks.WasmValidatorResources.ProposalRefusals.{told_of_ref};
+ghost use Rattle.wasm_typing_control.specs.WasmTypingChecks.OperatorRefusals.{TellsType};
 
 use std::alloc::Allocator;
 use wasm_typing_control::readers_errors::WasmFeatures;
@@ -61,20 +63,27 @@ pub fn resolve<T: WasmModuleResources>(
     }
 }
 
-/// The refusal of references to a written heap type that the features don't allow, with the proposal
-/// that they lack. Which type an index names makes no difference to it.
-#[inline(never)]
-pub fn disallowed<A: Allocator>(
-    stacks: &Stacks<A>,
-    nullable: bool,
-    heap: HeapType,
-) -> OperatorFault {
-    let like = match heap {
+/// A heap type with the first type index in the place of the one that it names, if it names one.
+fn with_first_index(heap: HeapType) -> HeapType
+    ensures fits { HeapFits result }
+    ensures same { map_heap {S = ℕ} (λ i. 0) (heap_of result) ≡ map_heap (λ i. 0) (heap_of heap) }
+{
+    match heap {
         HeapType::Abstract { shared, ty } => HeapType::Abstract { shared, ty },
         HeapType::Concrete(_) => HeapType::Concrete(UnpackedIndex::Module(0)),
         HeapType::Exact(_) => HeapType::Exact(UnpackedIndex::Module(0)),
-    };
-    let Some(ty) = RefType::new(nullable, like) else {
+    }
+}
+
+/// The refusal of references to a written heap type that the features don't allow, with the proposal
+/// that they lack. Which type an index names makes no difference to it.
+#[inline(never)]
+#[tactic(auto, using(crate::proofs::WrittenHeapTypes::lacking))]
+pub fn disallowed<A: Allocator>(stacks: &Stacks<A>, nullable: bool, heap: HeapType) -> OperatorFault
+    ensures { IfSome (told_of_ref stacks.now.features 0 (reference_to nullable (heap_of heap)))
+        (λ refusal. TellsType refusal result) }
+{
+    let Some(ty) = RefType::new(nullable, with_first_index(heap)) else {
         return OperatorFault::new(OperatorRule::ValueType);
     };
     match check_ref_type(stacks.features, ty, 0) {
