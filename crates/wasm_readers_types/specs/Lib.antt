@@ -7,3 +7,4 @@ pub mod SeenExterns
 pub mod ExternsExact
 pub mod Entities
 pub mod SyntaxEquality
+pub mod Texts

@@ -1,6 +1,11 @@
 //! Types in the text format (Core Specification 3.0, Text Format, Types), with indices that say what
 //! they are: `(module 3)`, `(recgroup 3)` or `(id 3)`.
 
+ghost use Rattle.std.specs.Prelude.{map};
+ghost use Rattle.std.specs.Fmt.{WritesOnOk};
+ghost use Rattle.wasm_readers_values.specs.SeenValues.{val_of};
+ghost use Rattle.wasm_readers_types.specs.Texts.{signature_text, spaced, values_text};
+
 use crate::externs::{EntityType, GlobalType, MemoryType, TableType};
 use crate::types::{
     ArrayType, CompositeInnerType, CompositeType, ContType, FuncType, StructType, SubType,
@@ -100,6 +105,12 @@ impl fmt::Display for EntityType {
 
 /// `(func (param i32 i64) (result f32))`, without what is empty.
 impl<A: Allocator> fmt::Display for FuncType<A> {
+    ghost use Rattle.std.specs.Prelude.{Some, map};
+    ghost use Rattle.wasm_readers_values.specs.SeenValues.{val_of};
+    ghost use Rattle.wasm_readers_types.specs.Texts.{function_text};
+
+    ghost output = { λ x. Some (function_text (map val_of x.params) (map val_of x.results)) };
+
     fn fmt<W: fmt::Write>(&self, f: &mut fmt::Formatter<W>) -> fmt::Result {
         f.write_str("(func")?;
         write_signature(f, self)?;
@@ -112,26 +123,41 @@ impl<A: Allocator> fmt::Display for FuncType<A> {
 pub fn write_signature<A: Allocator, W: fmt::Write>(
     f: &mut fmt::Formatter<W>,
     ty: &FuncType<A>,
-) -> fmt::Result {
+) -> fmt::Result
+    ensures { WritesOnOk W.write_str_gives f.old result
+        (signature_text (map val_of ty.now.params) (map val_of ty.now.results)) f.new }
+{
     write_values(f, " (param", ty.params())?;
     write_values(f, " (result", ty.results())
 }
 
 /// The value types behind this word, in braces, if there are any.
+#[tactic(auto, using(crate::proofs::Texts::texts))]
 fn write_values<W: fmt::Write>(
     f: &mut fmt::Formatter<W>,
     word: &str,
     types: &[ValType],
-) -> fmt::Result {
+) -> fmt::Result
+    ensures { WritesOnOk W.write_str_gives f.old result
+        (values_text word.now (map val_of types.now)) f.new }
+{
     if types.is_empty() {
         return Ok(());
     }
     f.write_str(word)?;
-    for ty in types {
+    write_each(f, types)?;
+    f.write_str(")")
+}
+
+/// The value types, each with a space before it.
+fn write_each<W: fmt::Write>(f: &mut fmt::Formatter<W>, types: &[ValType]) -> fmt::Result
+    ensures { WritesOnOk W.write_str_gives f.old result (spaced (map val_of types.now)) f.new }
+{
+    'types: for ty in types {
         f.write_str(" ")?;
         ty.fmt(f)?;
     }
-    f.write_str(")")
+    Ok(())
 }
 
 /// `(array (mut i8))`.

@@ -5,3 +5,4 @@ pub mod IndicesExact
 pub mod SeenValues
 pub mod ValuesExact
 pub mod ValuesApart
+pub mod Texts

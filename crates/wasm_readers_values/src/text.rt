@@ -1,13 +1,20 @@
 //! Value types in the text format (Core Specification 3.0, Text Format, Types), with indices that say
 //! what they are.
 
+ghost use Rattle.std.specs.Prelude.{◌≡◌, option_map};
+ghost use Rattle.std.specs.Fmt.{DisplaysOnOk, WritesOnOk, decimal};
+ghost use Rattle.wasm_readers_values.specs.SeenValues.{abstract_heap_of};
+ghost use Rattle.wasm_readers_values.specs.Texts.{braced, heap_name, reference_name};
+
 use crate::indices::{CoreTypeId, PackedIndex, UnpackedIndex};
 use crate::values::{AbstractHeapType, FieldType, HeapType, RefType, StorageType, ValType};
 use std::fmt;
 
 impl AbstractHeapType {
     /// The heap type's name.
-    fn name<'a>(self) -> &'a str {
+    fn name<'a>(self) -> &'a str
+        ensures { result.now ≡ heap_name (abstract_heap_of self) }
+    {
         match self {
             AbstractHeapType::Func => "func",
             AbstractHeapType::Extern => "extern",
@@ -27,7 +34,9 @@ impl AbstractHeapType {
     }
 
     /// The short name of the nullable references to this heap type.
-    fn reference_name<'a>(self) -> &'a str {
+    fn reference_name<'a>(self) -> &'a str
+        ensures { result.now ≡ reference_name (abstract_heap_of self) }
+    {
         match self {
             AbstractHeapType::Func => "funcref",
             AbstractHeapType::Extern => "externref",
@@ -52,7 +61,10 @@ fn write_braced<T: fmt::Display, W: fmt::Write>(
     f: &mut fmt::Formatter<W>,
     word: &str,
     value: &T,
-) -> fmt::Result {
+) -> fmt::Result
+    ensures { DisplaysOnOk W.write_str_gives f.old result
+        (option_map (braced word.now) (T.output value.now)) f.new }
+{
     f.write_str(word)?;
     value.fmt(f)?;
     f.write_str(")")
@@ -63,12 +75,20 @@ fn write_numbered<W: fmt::Write>(
     f: &mut fmt::Formatter<W>,
     word: &str,
     number: usize,
-) -> fmt::Result {
+) -> fmt::Result
+    ensures { WritesOnOk W.write_str_gives f.old result (braced word.now (decimal number)) f.new }
+{
     write!(f, "{word}{number})")
 }
 
 /// `(id 3)`: the number is the type's place in the list of types.
 impl fmt::Display for CoreTypeId {
+    ghost use Rattle.std.specs.Prelude.{Some};
+    ghost use Rattle.wasm_readers_values.specs.declared.indices.UnpackedIndex.TheVariants.{Id};
+    ghost use Rattle.wasm_readers_values.specs.Texts.{index_text};
+
+    ghost output = { λ x. Some (index_text (Id x)) };
+
     fn fmt<W: fmt::Write>(&self, f: &mut fmt::Formatter<W>) -> fmt::Result {
         write_numbered(f, "(id ", self.index())
     }
@@ -77,6 +97,11 @@ impl fmt::Display for CoreTypeId {
 /// `(module 3)`, `(recgroup 3)` or `(id 3)`: a type index of a module, a place in the recursion group,
 /// or the id of a type.
 impl fmt::Display for UnpackedIndex {
+    ghost use Rattle.std.specs.Prelude.{Some};
+    ghost use Rattle.wasm_readers_values.specs.Texts.{index_text};
+
+    ghost output = { λ x. Some (index_text x) };
+
     fn fmt<W: fmt::Write>(&self, f: &mut fmt::Formatter<W>) -> fmt::Result {
         match *self {
             UnpackedIndex::Module(number) => write_numbered(f, "(module ", number as usize),
@@ -88,12 +113,24 @@ impl fmt::Display for UnpackedIndex {
 
 /// As the index that it packs.
 impl fmt::Display for PackedIndex {
+    ghost use Rattle.std.specs.Prelude.{Some};
+    ghost use Rattle.wasm_readers_values.specs.SeenValues.{index_of};
+    ghost use Rattle.wasm_readers_values.specs.Texts.{index_text};
+
+    ghost output = { λ x. Some (index_text (index_of x)) };
+
     fn fmt<W: fmt::Write>(&self, f: &mut fmt::Formatter<W>) -> fmt::Result {
         self.unpack().fmt(f)
     }
 }
 
 impl fmt::Display for HeapType {
+    ghost use Rattle.std.specs.Prelude.{Some};
+    ghost use Rattle.wasm_readers_values.specs.SeenValues.{heap_of};
+    ghost use Rattle.wasm_readers_values.specs.Texts.{heap_text};
+
+    ghost output = { λ x. Some (heap_text (heap_of x)) };
+
     fn fmt<W: fmt::Write>(&self, f: &mut fmt::Formatter<W>) -> fmt::Result {
         match self {
             HeapType::Abstract { shared, ty } => {
@@ -113,6 +150,12 @@ impl fmt::Display for HeapType {
 }
 
 impl fmt::Display for RefType {
+    ghost use Rattle.std.specs.Prelude.{Some};
+    ghost use Rattle.wasm_readers_values.specs.SeenValues.{ref_of};
+    ghost use Rattle.wasm_readers_values.specs.Texts.{reference_text};
+
+    ghost output = { λ x. Some (reference_text (ref_of x).nullable (ref_of x).heap) };
+
     fn fmt<W: fmt::Write>(&self, f: &mut fmt::Formatter<W>) -> fmt::Result {
         let heap = self.heap_type();
         if !self.is_nullable() {
@@ -126,6 +169,12 @@ impl fmt::Display for RefType {
 }
 
 impl fmt::Display for ValType {
+    ghost use Rattle.std.specs.Prelude.{Some};
+    ghost use Rattle.wasm_readers_values.specs.SeenValues.{val_of};
+    ghost use Rattle.wasm_readers_values.specs.Texts.{val_text};
+
+    ghost output = { λ x. Some (val_text (val_of x)) };
+
     fn fmt<W: fmt::Write>(&self, f: &mut fmt::Formatter<W>) -> fmt::Result {
         match self {
             ValType::I32 => f.write_str("i32"),
