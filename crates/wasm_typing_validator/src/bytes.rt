@@ -13,7 +13,7 @@ ghost use Rattle.wasm_typing_validator.specs.StepsFromBytes.{ReadsStep, stepped}
 ghost use Rattle.wasm_typing_validator.specs.ValidatorFailures.{EndsReading};
 
 use crate::labels::table_step;
-use crate::seldom::{is_seldom, next_seldom};
+use crate::seldom::{is_seldom, next_float, next_seldom};
 use crate::steps::step;
 use crate::validator::OperatorValidator;
 use std::alloc::Allocator;
@@ -23,6 +23,7 @@ use wasm_typing_arity::read_served;
 use wasm_typing_blocks::typing_checks::OperatorError;
 use wasm_typing_blocks::typing_stacks::Stacks;
 use wasm_typing_blocks::validator_resources::WasmModuleResources;
+use wasm_typing_fast::typing_numbers::constant;
 use wasm_typing_fast::{NotTaken, fast_step};
 
 /// Reads the next operator and takes its step, where it is one that compilers write less often. Where
@@ -41,13 +42,27 @@ fn step_read<'a, A: Allocator, T: WasmModuleResources>(
     ensures left { OnErr result (state_of stacks.new ≡ state_of stacks.old) }
     ensures same { Kept stacks.old stacks.new }
 {
-    match next_seldom(reader) {
-        Some(op) => match step(stacks, resources, &op) {
-            Ok(()) => Ok(()),
+    if !stacks.is_open {
+        return Err(NotTaken::Left);
+    }
+    let mut ahead = *reader;
+    match next_float(&mut ahead) {
+        Some(value) => match constant(stacks, resources, value) {
+            Ok(()) => {
+                reader.go_on_from(&ahead);
+                Ok(())
+            }
             Err(OperatorError::Refused(_)) => Err(NotTaken::Left),
             Err(OperatorError::OutOfMemory) => Err(NotTaken::OutOfMemory),
         },
-        None => Err(NotTaken::Left),
+        None => match next_seldom(reader) {
+            Some(op) => match step(stacks, resources, &op) {
+                Ok(()) => Ok(()),
+                Err(OperatorError::Refused(_)) => Err(NotTaken::Left),
+                Err(OperatorError::OutOfMemory) => Err(NotTaken::OutOfMemory),
+            },
+            None => Err(NotTaken::Left),
+        },
     }
 }
 

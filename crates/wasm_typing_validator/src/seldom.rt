@@ -7,7 +7,7 @@ ghost use Rattle.wasm_readers_types.specs.WasmReadersValues.SeenValues.{heap_of}
 ghost use Rattle.wasm_operators.specs.WasmOperatorsPlain.WasmSpec.BinaryTypes.{heap_at};
 ghost use Rattle.wasm_operators.specs.WasmOperatorsPlain.Constants.{bits_32_at, bits_64_at};
 ghost use Rattle.wasm_operators.specs.WasmOperatorsPlain.Numeric.{saturating_from};
-ghost use Rattle.wasm_operators.specs.Instructions.{bulk_from, plain_from, instruction_at};
+ghost use Rattle.wasm_operators.specs.Instructions.{bulk_from, constant, plain_from, instruction_at};
 ghost use Rattle.wasm_operators.specs.SeenOperators.{operator_of};
 
 use wasm_operators::{
@@ -48,6 +48,27 @@ fn next_bits_64(reader: &mut BinaryReader) -> Option<u64>
     let low = next_bits_32(reader)?;
     let high = next_bits_32(reader)?;
     Some(u64::from(low) + (u64::from(high) << 32))
+}
+
+/// The next operator, if it is a constant of a floating-point number. Else the reader may stand
+/// anywhere in its input.
+#[inline(always)]
+#[tactic(auto, unfolding(crate::proofs::Cited::instruction_at, crate::proofs::Cited::plain_from, crate::proofs::Cited::constant_from))]
+pub(crate) fn next_float(reader: &mut BinaryReader) -> Option<ConstantOperator>
+    ensures same { SameInput reader.old reader.new }
+    ensures some { IfSome result (λ op. instruction_at written (rest reader.old)
+        ≡ Some (constant op, rest reader.new)) }
+    ensures further { OnSome result (position_in reader.old < position_in reader.new) }
+{
+    match reader.next_u8()? {
+        0x43 => Some(ConstantOperator::F32Const {
+            value: Ieee32(next_bits_32(reader)?),
+        }),
+        0x44 => Some(ConstantOperator::F64Const {
+            value: Ieee64(next_bits_64(reader)?),
+        }),
+        _ => None,
+    }
 }
 
 /// The heap type that is next, if it is that of functions or of what the host has.
@@ -131,10 +152,9 @@ fn next_on_references<'a>(reader: &mut BinaryReader<'a>, opcode: u8) -> Option<O
     }
 }
 
-/// The operator of this opcode, if it is one on tables, memories or floating-point numbers, or on
-/// references.
+/// The operator of this opcode, if it is one on tables, memories or references.
 #[inline(always)]
-#[tactic(auto, unfolding(crate::proofs::Cited::plain_from, crate::proofs::Cited::table_access_from, crate::proofs::Cited::memory_size_from, crate::proofs::Cited::constant_from))]
+#[tactic(auto, unfolding(crate::proofs::Cited::plain_from, crate::proofs::Cited::table_access_from, crate::proofs::Cited::memory_size_from))]
 fn next_on_values<'a>(reader: &mut BinaryReader<'a>, opcode: u8) -> Option<Operator<'a>>
     ensures same { SameInput reader.old reader.new }
     ensures onward { position_in reader.old ≤ position_in reader.new }
@@ -154,12 +174,6 @@ fn next_on_values<'a>(reader: &mut BinaryReader<'a>, opcode: u8) -> Option<Opera
         })),
         0x40 => Some(Operator::BulkMemory(BulkMemoryOperator::MemoryGrow {
             mem: reader.next_var_u32()?,
-        })),
-        0x43 => Some(Operator::Constant(ConstantOperator::F32Const {
-            value: Ieee32(next_bits_32(reader)?),
-        })),
-        0x44 => Some(Operator::Constant(ConstantOperator::F64Const {
-            value: Ieee64(next_bits_64(reader)?),
         })),
         _ => next_on_references(reader, opcode),
     }
