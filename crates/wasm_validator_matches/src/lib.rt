@@ -4,7 +4,6 @@
 
 mod composites;
 mod matches;
-mod references;
 mod type_info;
 mod with_rec_group;
 

@@ -1,4 +1,5 @@
-//! Matching of parts of types (Core Specification 3.0, Validation, Matching).
+//! Matching of parts of types (Core Specification 3.0, Validation, Matching), by the functions that
+//! the list of types matches its own types with.
 
 ghost use Rattle.std.specs.Prelude.{List};
 ghost use Rattle.std.specs.Bool.{Decides};
@@ -6,15 +7,14 @@ ghost use Rattle.wasm_readers_types.specs.SeenTypes.{func_of, struct_of, comp_of
 ghost use Rattle.wasm_readers_types.specs.declared.types.SubType.{SubType};
 ghost use Rattle.wasm_validator_matches.specs.Parts.{RefStands, ValStands, StorageStands, FieldStands, ArrayStands, ContStands, RefsAgree, ValsAgree, StoragesAgree, FieldsAgree, ArraysAgree, ContsAgree, CompStands, CompsAgree, CompositesAgree, SubsAgree};
 
-use crate::composites::{all_fields_match, func_signature_matches, inners_match};
-use crate::references::reference_at;
+use crate::composites::func_signature_matches;
 use crate::with_rec_group::WithRecGroup;
 use std::alloc::Allocator;
 use wasm_readers_types::{
     ArrayType, CompositeType, ContType, FieldType, FuncType, RefType, StorageType, StructType,
     SubType, ValType,
 };
-use wasm_validator_type_list::TypeList;
+use wasm_validator_type_list::{TypeList, all_fields_match, inners_match, subs_match};
 
 /// Parts of types that may match one another.
 pub trait Matches<A: Allocator>: Sized {
@@ -35,10 +35,7 @@ impl<A: Allocator + Copy> Matches<A> for WithRecGroup<RefType> {
     ghost agree = { RefsAgree };
 
     fn matches(types: &TypeList<A>, a: WithRecGroup<RefType>, b: WithRecGroup<RefType>) -> bool {
-        types.reftype_is_subtype(
-            reference_at(types, a.rec_group, a.inner),
-            reference_at(types, b.rec_group, b.inner),
-        )
+        types.refs_match(a.rec_group, a.inner, b.rec_group, b.inner)
     }
 }
 
@@ -48,19 +45,7 @@ impl<A: Allocator + Copy> Matches<A> for WithRecGroup<ValType> {
     ghost agree = { ValsAgree };
 
     fn matches(types: &TypeList<A>, a: WithRecGroup<ValType>, b: WithRecGroup<ValType>) -> bool {
-        match (a.inner, b.inner) {
-            (ValType::Ref(sub), ValType::Ref(sup)) => Matches::matches(
-                types,
-                WithRecGroup::new(sub, a.rec_group),
-                WithRecGroup::new(sup, b.rec_group),
-            ),
-            (ValType::I32, ValType::I32)
-            | (ValType::I64, ValType::I64)
-            | (ValType::F32, ValType::F32)
-            | (ValType::F64, ValType::F64)
-            | (ValType::V128, ValType::V128) => true,
-            _ => false,
-        }
+        types.vals_match(a.rec_group, a.inner, b.rec_group, b.inner)
     }
 }
 
@@ -74,15 +59,7 @@ impl<A: Allocator + Copy> Matches<A> for WithRecGroup<StorageType> {
         a: WithRecGroup<StorageType>,
         b: WithRecGroup<StorageType>,
     ) -> bool {
-        match (a.inner, b.inner) {
-            (StorageType::Val(sub), StorageType::Val(sup)) => Matches::matches(
-                types,
-                WithRecGroup::new(sub, a.rec_group),
-                WithRecGroup::new(sup, b.rec_group),
-            ),
-            (StorageType::I8, StorageType::I8) | (StorageType::I16, StorageType::I16) => true,
-            _ => false,
-        }
+        types.storages_match(a.rec_group, a.inner, b.rec_group, b.inner)
     }
 }
 
@@ -96,12 +73,7 @@ impl<A: Allocator + Copy> Matches<A> for WithRecGroup<FieldType> {
         a: WithRecGroup<FieldType>,
         b: WithRecGroup<FieldType>,
     ) -> bool {
-        if a.inner.mutable != b.inner.mutable {
-            return false;
-        }
-        let sub = WithRecGroup::new(a.inner.element_type, a.rec_group);
-        let sup = WithRecGroup::new(b.inner.element_type, b.rec_group);
-        Matches::matches(types, sub, sup) && (!a.inner.mutable || Matches::matches(types, sup, sub))
+        types.fields_match(a.rec_group, a.inner, b.rec_group, b.inner)
     }
 }
 
@@ -115,11 +87,7 @@ impl<A: Allocator + Copy> Matches<A> for WithRecGroup<ArrayType> {
         a: WithRecGroup<ArrayType>,
         b: WithRecGroup<ArrayType>,
     ) -> bool {
-        Matches::matches(
-            types,
-            WithRecGroup::new(a.inner.0, a.rec_group),
-            WithRecGroup::new(b.inner.0, b.rec_group),
-        )
+        types.fields_match(a.rec_group, a.inner.0, b.rec_group, b.inner.0)
     }
 }
 
@@ -213,9 +181,6 @@ impl<'a, A: Allocator + Copy> Matches<A> for WithRecGroup<&'a SubType<A>> {
         a: WithRecGroup<&'a SubType<A>>,
         b: WithRecGroup<&'a SubType<A>>,
     ) -> bool {
-        let sub = &a.inner.composite_type;
-        let sup = &b.inner.composite_type;
-        sub.shared == sup.shared
-            && inners_match(types, a.rec_group, &sub.inner, b.rec_group, &sup.inner)
+        subs_match(types, a.rec_group, a.inner, b.rec_group, b.inner)
     }
 }

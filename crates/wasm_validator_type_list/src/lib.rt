@@ -8,14 +8,13 @@ mod entity_display;
 mod laws;
 mod type_alloc;
 mod type_list;
-mod with_rec_group;
 
 pub use entity_display::EntityDisplay;
 pub use laws::{
     ids_are_a_world, ids_match_as_types, types_declare_what_ids_declare, types_have_their_places,
 };
 pub use type_alloc::TypeAlloc;
-pub use type_list::TypeList;
+pub use type_list::{TypeList, all_fields_match, all_vals_match, inners_match, subs_match};
 pub use wasm_validator_type_ancestors::LinkCount;
 pub use wasm_validator_type_ancestors::validator_type_groups::{
     RecGroupElements, RecGroupId, SnapshotList,

@@ -46,6 +46,8 @@ mod matching;
 mod relations;
 mod total;
 
+pub use matching::{all_fields_match, all_vals_match, inners_match, subs_match};
+
 /// The types of all modules that one validator has seen, in recursion groups, each type under its
 /// id, which is its place among all types. A contract sees the mode of the list, whether groups may
 /// be added, the sub types of each group in order, and the depths that are kept of types. Where it

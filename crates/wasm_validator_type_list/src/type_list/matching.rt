@@ -14,7 +14,6 @@ ghost use Rattle.wasm_validator_type_list.specs.Subtyping.{IsHeapOver, heap_by_i
 ghost use Rattle.wasm_validator_type_list.specs.GroupTypes.{leads_in, heap_in, IsKnownIn, AreIn, RefsMatch, ValsMatch, StoragesMatch, FieldsMatch, FieldListsMatch, CompsMatch, SubsMatch, MatchesDeclared};
 
 use crate::type_list::{TypeList, id_from};
-use crate::with_rec_group::WithRecGroup;
 use std::alloc::Allocator;
 use wasm_readers_types::{
     CompositeInnerType, CoreTypeId, FieldType, HeapType, RefType, StorageType, SubType,
@@ -50,33 +49,42 @@ impl<A: Allocator + Copy> TypeList<A> {
     }
 
     /// Whether the first reference type matches the second, each in its group.
-    fn refs_match(&self, a: WithRecGroup<RefType>, b: WithRecGroup<RefType>) -> bool
-        requires sub { AreIn self.now.groups a.rec_group.index (refs_heap (ref_of a.inner).heap) }
-        requires sup { AreIn self.now.groups b.rec_group.index (refs_heap (ref_of b.inner).heap) }
-        ensures { Decides result (RefsMatch self.now.groups a.rec_group.index
-            b.rec_group.index a.inner b.inner) }
+    pub fn refs_match(
+        &self,
+        a_group: RecGroupId,
+        a: RefType,
+        b_group: RecGroupId,
+        b: RefType,
+    ) -> bool
+        requires sub { AreIn self.now.groups a_group.index (refs_heap (ref_of a).heap) }
+        requires sup { AreIn self.now.groups b_group.index (refs_heap (ref_of b).heap) }
+        ensures { Decides result (RefsMatch self.now.groups a_group.index b_group.index a b) }
     {
-        if a.inner.is_nullable() && !b.inner.is_nullable() {
+        if a.is_nullable() && !b.is_nullable() {
             return false;
         }
         self.heap_is_subtype(
-            self.heap_at(a.rec_group, a.inner.heap_type()),
-            self.heap_at(b.rec_group, b.inner.heap_type()),
+            self.heap_at(a_group, a.heap_type()),
+            self.heap_at(b_group, b.heap_type()),
         )
     }
 
     /// Whether the first value type matches the second, each in its group.
-    fn vals_match(&self, a: WithRecGroup<ValType>, b: WithRecGroup<ValType>) -> bool
-        requires sub { AreIn self.now.groups a.rec_group.index (refs_val (val_of a.inner)) }
-        requires sup { AreIn self.now.groups b.rec_group.index (refs_val (val_of b.inner)) }
-        ensures { Decides result (ValsMatch self.now.groups a.rec_group.index
-            b.rec_group.index a.inner b.inner) }
+    pub fn vals_match(
+        &self,
+        a_group: RecGroupId,
+        a: ValType,
+        b_group: RecGroupId,
+        b: ValType,
+    ) -> bool
+        requires sub { AreIn self.now.groups a_group.index (refs_val (val_of a)) }
+        requires sup { AreIn self.now.groups b_group.index (refs_val (val_of b)) }
+        ensures { Decides result (ValsMatch self.now.groups a_group.index b_group.index a b) }
     {
-        match (a.inner, b.inner) {
-            (ValType::Ref(sub), ValType::Ref(sup)) => self.refs_match(
-                WithRecGroup::new(sub, a.rec_group),
-                WithRecGroup::new(sup, b.rec_group),
-            ),
+        match (a, b) {
+            (ValType::Ref(sub), ValType::Ref(sup)) => {
+                self.refs_match(a_group, sub, b_group, sup)
+            }
             (ValType::I32, ValType::I32)
             | (ValType::I64, ValType::I64)
             | (ValType::F32, ValType::F32)
@@ -88,17 +96,21 @@ impl<A: Allocator + Copy> TypeList<A> {
 
     /// Whether the first storage type matches the second, each in its group (Core Specification
     /// 3.0, Validation, Matching, Storage Types).
-    fn storages_match(&self, a: WithRecGroup<StorageType>, b: WithRecGroup<StorageType>) -> bool
-        requires sub { AreIn self.now.groups a.rec_group.index (refs_storage (storage_of a.inner)) }
-        requires sup { AreIn self.now.groups b.rec_group.index (refs_storage (storage_of b.inner)) }
-        ensures { Decides result (StoragesMatch self.now.groups a.rec_group.index
-            b.rec_group.index a.inner b.inner) }
+    pub fn storages_match(
+        &self,
+        a_group: RecGroupId,
+        a: StorageType,
+        b_group: RecGroupId,
+        b: StorageType,
+    ) -> bool
+        requires sub { AreIn self.now.groups a_group.index (refs_storage (storage_of a)) }
+        requires sup { AreIn self.now.groups b_group.index (refs_storage (storage_of b)) }
+        ensures { Decides result (StoragesMatch self.now.groups a_group.index b_group.index a b) }
     {
-        match (a.inner, b.inner) {
-            (StorageType::Val(sub), StorageType::Val(sup)) => self.vals_match(
-                WithRecGroup::new(sub, a.rec_group),
-                WithRecGroup::new(sup, b.rec_group),
-            ),
+        match (a, b) {
+            (StorageType::Val(sub), StorageType::Val(sup)) => {
+                self.vals_match(a_group, sub, b_group, sup)
+            }
             (StorageType::I8, StorageType::I8) | (StorageType::I16, StorageType::I16) => true,
             _ => false,
         }
@@ -106,24 +118,30 @@ impl<A: Allocator + Copy> TypeList<A> {
 
     /// Whether the first field matches the second, each in its group (Core Specification 3.0,
     /// Validation, Matching, Field Types).
-    fn fields_match(&self, a: WithRecGroup<FieldType>, b: WithRecGroup<FieldType>) -> bool
-        requires sub { AreIn self.now.groups a.rec_group.index (refs_field (field_of a.inner)) }
-        requires sup { AreIn self.now.groups b.rec_group.index (refs_field (field_of b.inner)) }
-        ensures { Decides result (FieldsMatch self.now.groups a.rec_group.index
-            b.rec_group.index a.inner b.inner) }
+    pub fn fields_match(
+        &self,
+        a_group: RecGroupId,
+        a: FieldType,
+        b_group: RecGroupId,
+        b: FieldType,
+    ) -> bool
+        requires sub { AreIn self.now.groups a_group.index (refs_field (field_of a)) }
+        requires sup { AreIn self.now.groups b_group.index (refs_field (field_of b)) }
+        ensures { Decides result (FieldsMatch self.now.groups a_group.index b_group.index a b) }
     {
-        if a.inner.mutable != b.inner.mutable {
+        if a.mutable != b.mutable {
             return false;
         }
-        let sub = WithRecGroup::new(a.inner.element_type, a.rec_group);
-        let sup = WithRecGroup::new(b.inner.element_type, b.rec_group);
-        self.storages_match(sub, sup) && (!a.inner.mutable || self.storages_match(sup, sub))
+        let sub = a.element_type;
+        let sup = b.element_type;
+        self.storages_match(a_group, sub, b_group, sup)
+            && (!a.mutable || self.storages_match(b_group, sup, a_group, sub))
     }
 }
 
 /// Whether there are as many value types in both lists, and each of the first matches the one at
 /// its place in the second, each in its group.
-fn all_vals_match<A: Allocator + Copy>(
+pub fn all_vals_match<A: Allocator + Copy>(
     types: &TypeList<A>,
     a_group: RecGroupId,
     a: &[ValType],
@@ -139,10 +157,7 @@ fn all_vals_match<A: Allocator + Copy>(
         return false;
     }
     'vals: for i in 0..a.len() {
-        if !types.vals_match(
-            WithRecGroup::new(a[i], a_group),
-            WithRecGroup::new(b[i], b_group),
-        ) {
+        if !types.vals_match(a_group, a[i], b_group, b[i]) {
             return false;
         }
     }
@@ -151,7 +166,7 @@ fn all_vals_match<A: Allocator + Copy>(
 
 /// Whether each field of the second list is matched by the one at its place in the first, each in
 /// its group.
-fn all_fields_match<A: Allocator + Copy>(
+pub fn all_fields_match<A: Allocator + Copy>(
     types: &TypeList<A>,
     a_group: RecGroupId,
     a: &[FieldType],
@@ -167,10 +182,7 @@ fn all_fields_match<A: Allocator + Copy>(
         return false;
     }
     'fields: for i in 0..b.len() {
-        if !types.fields_match(
-            WithRecGroup::new(a[i], a_group),
-            WithRecGroup::new(b[i], b_group),
-        ) {
+        if !types.fields_match(a_group, a[i], b_group, b[i]) {
             return false;
         }
     }
@@ -179,7 +191,7 @@ fn all_fields_match<A: Allocator + Copy>(
 
 /// Whether the first composite type matches the second, each in its group, their flags aside (Core
 /// Specification 3.0, Validation, Matching, Composite Types).
-fn inners_match<A: Allocator + Copy>(
+pub fn inners_match<A: Allocator + Copy>(
     types: &TypeList<A>,
     a_group: RecGroupId,
     a: &CompositeInnerType<A>,
@@ -195,10 +207,9 @@ fn inners_match<A: Allocator + Copy>(
             all_vals_match(types, b_group, sup.params(), a_group, sub.params())
                 && all_vals_match(types, a_group, sub.results(), b_group, sup.results())
         }
-        (CompositeInnerType::Array(sub), CompositeInnerType::Array(sup)) => types.fields_match(
-            WithRecGroup::new(sub.0, a_group),
-            WithRecGroup::new(sup.0, b_group),
-        ),
+        (CompositeInnerType::Array(sub), CompositeInnerType::Array(sup)) => {
+            types.fields_match(a_group, sub.0, b_group, sup.0)
+        }
         (CompositeInnerType::Struct(sub), CompositeInnerType::Struct(sup)) => all_fields_match(
             types,
             a_group,
@@ -216,7 +227,7 @@ fn inners_match<A: Allocator + Copy>(
 
 /// Whether the composite type of the first sub type with its shared flag matches that of the
 /// second, each in its group.
-fn subs_match<A: Allocator + Copy>(
+pub fn subs_match<A: Allocator + Copy>(
     types: &TypeList<A>,
     a_group: RecGroupId,
     a: &SubType<A>,
