@@ -199,6 +199,8 @@ pub fn read_memory(
 }
 
 /// The logarithm to base 2 of the bytes that it accesses. Validation refuses an alignment past it.
+/// Inlined where it is called: each access of the fast step has an alignment of its own there.
+#[inline(always)]
 pub fn max_align(op: MemoryOperator) -> u8
     ensures { result ≡ max_align_of op }
 {

@@ -7,7 +7,7 @@ ghost use Rattle.wasm_typing_control.specs.WasmTypingChecks.WasmTypingStacks.Bod
 ghost use Rattle.wasm_typing_control.specs.FastSteps.{Performs};
 
 use std::alloc::Allocator;
-use wasm_operators_plain::{MemArg, MemoryOperator, NumberType};
+use wasm_operators_plain::{MemArg, MemoryOperator, NumberType, max_align};
 use wasm_readers_types::MemoryType;
 use wasm_typing_control::typing_checks::address;
 use wasm_typing_control::typing_numbers::allows_number;
@@ -15,45 +15,13 @@ use wasm_typing_control::typing_stacks::{Stacks, TypeWord};
 use wasm_typing_control::validator_resources::WasmModuleResources;
 use wasm_typing_control::{NotTaken, exchange_known, take_two_known};
 
-/// The greatest alignment that an access may have. It is `max_align` again, in place.
-#[inline(always)]
-fn align_in_place(op: MemoryOperator) -> u8
-    ensures { result ≡ max_align_of op }
-{
-    match op {
-        MemoryOperator::I32Load8S
-        | MemoryOperator::I32Load8U
-        | MemoryOperator::I64Load8S
-        | MemoryOperator::I64Load8U
-        | MemoryOperator::I32Store8
-        | MemoryOperator::I64Store8 => 0,
-        MemoryOperator::I32Load16S
-        | MemoryOperator::I32Load16U
-        | MemoryOperator::I64Load16S
-        | MemoryOperator::I64Load16U
-        | MemoryOperator::I32Store16
-        | MemoryOperator::I64Store16 => 1,
-        MemoryOperator::I32Load
-        | MemoryOperator::F32Load
-        | MemoryOperator::I64Load32S
-        | MemoryOperator::I64Load32U
-        | MemoryOperator::I32Store
-        | MemoryOperator::F32Store
-        | MemoryOperator::I64Store32 => 2,
-        MemoryOperator::I64Load
-        | MemoryOperator::F64Load
-        | MemoryOperator::I64Store
-        | MemoryOperator::F64Store => 3,
-    }
-}
-
 /// Whether a memory has 32-bit addresses and may be accessed so.
 #[inline(always)]
 fn fits(memory: MemoryType, op: MemoryOperator, arg: MemArg) -> bool
     ensures { result ≡ true → (nat_le arg.align (max_align_of op)
         && (memory.memory64 || nat_lt arg.offset (2 ^ 32))) ≡ true }
 {
-    !memory.memory64 && arg.align <= align_in_place(op) && arg.offset < 4_294_967_296
+    !memory.memory64 && arg.align <= max_align(op) && arg.offset < 4_294_967_296
 }
 
 /// A load of a number of this type.
