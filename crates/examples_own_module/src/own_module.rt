@@ -3,25 +3,21 @@
 ghost use Rattle.std.specs.Prelude.{◌≡◌, ◌<◌, ◌≤◌, ◌^◌, length, slice_get, IfSome, IsSome, IfOk, OnErr, ◌↔◌};
 ghost use Rattle.std.specs.Option.{option_map};
 ghost use Rattle.std.specs.declared.option.Option.TheVariants.{None, Some};
-ghost use Rattle.wasm_spec.specs.MatchingTests.{matches_heap, matches_ref};
-ghost use Rattle.wasm_spec.specs.Syntax.{abstract_heap, concrete, exact};
 ghost use Rattle.wasm_spec_rules.specs.Worlds.{is_below};
-ghost use Rattle.wasm_readers_types.specs.SeenTypes.{sub_of};
-ghost use Rattle.wasm_readers_types.specs.WasmReadersValues.SeenValues.{abstract_heap_of, heap_of, ref_of};
 ghost use Rattle.wasm_readers_types.specs.WasmReadersValues.declared.indices.TheConstants.{MAX_IDS};
 ghost use Rattle.wasm_readers_types.specs.WasmReadersValues.declared.indices.UnpackedIndex.TheVariants.{Id};
-ghost use Rattle.wasm_validator_resources.specs.Answers.{world, same_index, written_index, IsWritten};
+ghost use Rattle.wasm_validator_resources.specs.Answers.{same_index, written_index, IsWritten};
 ghost use Rattle.examples_own_module.specs.OwnContexts.{own_context, supertype_in};
 
 use crate::parts::OwnParts;
 use std::alloc::Allocator;
 use wasm_readers_errors::{Fault, Refusal};
 use wasm_readers_types::{
-    AbstractHeapType, CompositeInnerType, CoreTypeId, FuncType, GlobalType, HeapType, MAX_IDS,
-    MemoryType, RefType, SubType, TableType, UnpackedIndex, ValType, same_flag,
+    CompositeInnerType, CoreTypeId, FuncType, GlobalType, HeapType, MAX_IDS, MemoryType, RefType,
+    SubType, TableType, UnpackedIndex, ValType,
 };
 use wasm_validator_resources::{
-    WasmModuleResources, is_above_bottom, is_shared, matches_kind, same_index,
+    DeclaredTypes, WasmModuleResources, is_shared, same_index, val_matches,
 };
 
 /// A module in a user's own form, with what is looked up of it. Its types are identities by their
@@ -60,17 +56,6 @@ impl<'a, A: Allocator> OwnModule<'a, A> {
         }
     }
 
-    /// What the type is that this stands for, if it stands for one.
-    fn type_for(&self, index: UnpackedIndex) -> Option<&SubType<A>>
-        ensures { option_map (λ t. sub_of t.now) result
-            ≡ (world (own_context self.now.parts)).declared index }
-    {
-        match index {
-            UnpackedIndex::Id(id) => self.parts.types.get(id.index()),
-            UnpackedIndex::Module(_) | UnpackedIndex::RecGroup(_) => None,
-        }
-    }
-
     /// The supertype that the type declares which this stands for, if it declares one.
     fn supertype(&self, index: UnpackedIndex) -> Option<UnpackedIndex>
         ensures { result ≡ supertype_in (own_context self.now.parts) index }
@@ -97,73 +82,6 @@ impl<'a, A: Allocator> OwnModule<'a, A> {
         }
     }
 
-    /// Whether the second is the first or stands for one of its ancestors.
-    fn is_below(&self, a: UnpackedIndex, b: UnpackedIndex) -> bool
-        ensures { result ≡ (world (own_context self.now.parts)).below a b }
-    {
-        self.is_below_within(self.parts.types.len(), a, b)
-    }
-
-    /// Whether the abstract heap type matches the heap type.
-    fn abstract_matches(&self, shared: bool, ty: AbstractHeapType, b: HeapType) -> bool
-        ensures { result ≡ matches_heap (world (own_context self.now.parts))
-            (abstract_heap shared (abstract_heap_of ty)) (heap_of b) }
-    {
-        match b {
-            HeapType::Abstract {
-                shared: other_shared,
-                ty: other,
-            } => same_flag(shared, other_shared) && ty.is_subtype_of(other),
-            HeapType::Concrete(index) | HeapType::Exact(index) => {
-                is_above_bottom(self.type_for(index), shared, ty)
-            }
-        }
-    }
-
-    /// Whether what the type or a subtype of it describes matches the heap type.
-    fn concrete_matches(&self, a: UnpackedIndex, b: HeapType) -> bool
-        ensures { result ≡ matches_heap (world (own_context self.now.parts)) (concrete a)
-            (heap_of b) }
-    {
-        match b {
-            HeapType::Abstract { shared, ty } => matches_kind(self.type_for(a), shared, ty),
-            HeapType::Concrete(index) => self.is_below(a, index),
-            HeapType::Exact(_) => false,
-        }
-    }
-
-    /// Whether what exactly the type describes matches the heap type.
-    fn exact_matches(&self, a: UnpackedIndex, b: HeapType) -> bool
-        ensures { result ≡ matches_heap (world (own_context self.now.parts)) (exact a)
-            (heap_of b) }
-    {
-        match b {
-            HeapType::Abstract { shared, ty } => matches_kind(self.type_for(a), shared, ty),
-            HeapType::Concrete(index) => self.is_below(a, index),
-            HeapType::Exact(index) => same_index(a, index),
-        }
-    }
-
-    /// Whether the first heap type matches the second.
-    fn heap_matches(&self, a: HeapType, b: HeapType) -> bool
-        ensures { result ≡ matches_heap (world (own_context self.now.parts)) (heap_of a)
-            (heap_of b) }
-    {
-        match a {
-            HeapType::Abstract { shared, ty } => self.abstract_matches(shared, ty, b),
-            HeapType::Concrete(index) => self.concrete_matches(index, b),
-            HeapType::Exact(index) => self.exact_matches(index, b),
-        }
-    }
-
-    /// Whether the first reference type matches the second.
-    fn ref_matches(&self, a: RefType, b: RefType) -> bool
-        ensures { result ≡ matches_ref (world (own_context self.now.parts)) (ref_of a)
-            (ref_of b) }
-    {
-        (!a.is_nullable() || b.is_nullable()) && self.heap_matches(a.heap_type(), b.heap_type())
-    }
-
     /// The id of the type that is written so in the module.
     fn resolve(&self, written: UnpackedIndex, offset: u64) -> Result<CoreTypeId, Refusal>
         requires { IsWritten written }
@@ -181,6 +99,23 @@ impl<'a, A: Allocator> OwnModule<'a, A> {
             Some(id) => Ok(id),
             None => Err(Refusal::new(Fault::UnknownType(type_index), offset)),
         }
+    }
+}
+
+impl<'a, A: Allocator> DeclaredTypes for OwnModule<'a, A> {
+    type A = A;
+
+    ghost context = { λ r. own_context r.parts };
+
+    fn type_for(&self, index: UnpackedIndex) -> Option<&SubType<A>> {
+        match index {
+            UnpackedIndex::Id(id) => self.parts.types.get(id.index()),
+            UnpackedIndex::Module(_) | UnpackedIndex::RecGroup(_) => None,
+        }
+    }
+
+    fn is_below(&self, a: UnpackedIndex, b: UnpackedIndex) -> bool {
+        self.is_below_within(self.parts.types.len(), a, b)
     }
 }
 
@@ -258,15 +193,7 @@ impl<'a, A: Allocator> WasmModuleResources for OwnModule<'a, A> {
     }
 
     fn is_subtype(&self, a: ValType, b: ValType) -> bool {
-        match (a, b) {
-            (ValType::Ref(a), ValType::Ref(b)) => self.ref_matches(a, b),
-            (ValType::I32, ValType::I32)
-            | (ValType::I64, ValType::I64)
-            | (ValType::F32, ValType::F32)
-            | (ValType::F64, ValType::F64)
-            | (ValType::V128, ValType::V128) => true,
-            _ => false,
-        }
+        val_matches(self, a, b)
     }
 
     fn is_shared(&self, ty: RefType) -> bool {

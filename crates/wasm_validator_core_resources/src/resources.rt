@@ -4,10 +4,8 @@ ghost use Rattle.std.specs.Prelude.{◌≡◌, ◌<◌, ◌^◌, length, map, na
 ghost use Rattle.std.specs.List.{All};
 ghost use Rattle.std.specs.Option.{option_map};
 ghost use Rattle.std.specs.declared.option.Option.TheVariants.{None, Some};
-ghost use Rattle.wasm_spec.specs.Syntax.{abstract_heap, concrete, exact};
-ghost use Rattle.wasm_spec.specs.MatchingTests.{matches_heap, matches_ref};
 ghost use Rattle.wasm_readers_types.specs.SeenTypes.{sub_of};
-ghost use Rattle.wasm_readers_types.specs.WasmReadersValues.SeenValues.{abstract_heap_of, heap_of, ref_of};
+ghost use Rattle.wasm_readers_types.specs.WasmReadersValues.SeenValues.{ref_of};
 ghost use Rattle.wasm_readers_types.specs.WasmReadersValues.declared.indices.TheConstants.{MAX_IDS};
 ghost use Rattle.wasm_readers_types.specs.WasmReadersValues.declared.indices.UnpackedIndex.TheVariants.{Id};
 ghost use Rattle.wasm_validator_type_list.specs.DefTypes.{types_of_list};
@@ -18,12 +16,12 @@ use crate::types_by_ids::TypesByIds;
 use std::alloc::Allocator;
 use std::marker::Model;
 use wasm_readers_types::{
-    AbstractHeapType, CompositeInnerType, CoreTypeId, FuncType, GlobalType, HeapType, MemoryType,
-    RefType, SubType, TableType, UnpackedIndex, ValType, same_flag,
+    CompositeInnerType, CoreTypeId, FuncType, GlobalType, HeapType, MemoryType, RefType, SubType,
+    TableType, UnpackedIndex, ValType,
 };
 use wasm_validator_resources::readers_errors::{Fault, Refusal};
 use wasm_validator_resources::{
-    WasmModuleResources, is_above_bottom, is_shared, matches_kind, same_index,
+    DeclaredTypes, WasmModuleResources, is_shared, same_index, val_matches,
 };
 use wasm_validator_type_list::{SnapshotList, TypeList};
 use wasm_validator_types::IndexSpaces;
@@ -124,89 +122,6 @@ impl<'a, A: Allocator + Copy> ModuleResources<'a, A> {
         self.types.get(id.index())
     }
 
-    /// What the type is that this stands for, if it stands for one.
-    fn type_for(&self, index: UnpackedIndex) -> Option<&SubType<A>>
-        ensures { option_map (λ t. sub_of t.now) result ≡ (world self.now).declared index }
-    {
-        // What is always true of the look-ups is known from here on.
-        let _types = self.types;
-        match index {
-            UnpackedIndex::Id(id) => self.type_of(id),
-            UnpackedIndex::Module(_) | UnpackedIndex::RecGroup(_) => None,
-        }
-    }
-
-    /// Whether the second is the first or stands for one of its ancestors.
-    fn is_below(&self, a: UnpackedIndex, b: UnpackedIndex) -> bool
-        ensures { result ≡ (world self.now).below a b }
-    {
-        let list = self.list;
-        let id = match a {
-            UnpackedIndex::Id(id) => id,
-            UnpackedIndex::Module(_) | UnpackedIndex::RecGroup(_) => return same_index(a, b),
-        };
-        match b {
-            UnpackedIndex::Id(other) => list.id_is_below(id, other),
-            UnpackedIndex::Module(_) | UnpackedIndex::RecGroup(_) => false,
-        }
-    }
-
-    /// Whether the abstract heap type matches the heap type.
-    fn abstract_matches(&self, shared: bool, ty: AbstractHeapType, b: HeapType) -> bool
-        ensures { result ≡ matches_heap (world self.now)
-            (abstract_heap shared (abstract_heap_of ty)) (heap_of b) }
-    {
-        match b {
-            HeapType::Abstract {
-                shared: other_shared,
-                ty: other,
-            } => same_flag(shared, other_shared) && ty.is_subtype_of(other),
-            HeapType::Concrete(index) | HeapType::Exact(index) => {
-                is_above_bottom(self.type_for(index), shared, ty)
-            }
-        }
-    }
-
-    /// Whether what the type or a subtype of it describes matches the heap type.
-    fn concrete_matches(&self, a: UnpackedIndex, b: HeapType) -> bool
-        ensures { result ≡ matches_heap (world self.now) (concrete a) (heap_of b) }
-    {
-        match b {
-            HeapType::Abstract { shared, ty } => matches_kind(self.type_for(a), shared, ty),
-            HeapType::Concrete(index) => self.is_below(a, index),
-            HeapType::Exact(_) => false,
-        }
-    }
-
-    /// Whether what exactly the type describes matches the heap type.
-    fn exact_matches(&self, a: UnpackedIndex, b: HeapType) -> bool
-        ensures { result ≡ matches_heap (world self.now) (exact a) (heap_of b) }
-    {
-        match b {
-            HeapType::Abstract { shared, ty } => matches_kind(self.type_for(a), shared, ty),
-            HeapType::Concrete(index) => self.is_below(a, index),
-            HeapType::Exact(index) => same_index(a, index),
-        }
-    }
-
-    /// Whether the first heap type matches the second.
-    fn heap_matches(&self, a: HeapType, b: HeapType) -> bool
-        ensures { result ≡ matches_heap (world self.now) (heap_of a) (heap_of b) }
-    {
-        match a {
-            HeapType::Abstract { shared, ty } => self.abstract_matches(shared, ty, b),
-            HeapType::Concrete(index) => self.concrete_matches(index, b),
-            HeapType::Exact(index) => self.exact_matches(index, b),
-        }
-    }
-
-    /// Whether the first reference type matches the second.
-    fn ref_matches(&self, a: RefType, b: RefType) -> bool
-        ensures { result ≡ matches_ref (world self.now) (ref_of a) (ref_of b) }
-    {
-        (!a.is_nullable() || b.is_nullable()) && self.heap_matches(a.heap_type(), b.heap_type())
-    }
-
     /// The id of the type that is written so in the module.
     fn resolve(&self, written: UnpackedIndex, offset: u64) -> Result<CoreTypeId, Refusal>
         requires { IsWritten written }
@@ -222,6 +137,33 @@ impl<'a, A: Allocator + Copy> ModuleResources<'a, A> {
         match self.type_id_at(type_index) {
             Some(id) => Ok(id),
             None => Err(Refusal::new(Fault::UnknownType(type_index), offset)),
+        }
+    }
+}
+
+impl<'a, A: Allocator + Copy> DeclaredTypes for ModuleResources<'a, A> {
+    type A = A;
+
+    ghost context = { λ C. C };
+
+    fn type_for(&self, index: UnpackedIndex) -> Option<&SubType<A>> {
+        // What is always true of the look-ups is known from here on.
+        let _types = self.types;
+        match index {
+            UnpackedIndex::Id(id) => self.type_of(id),
+            UnpackedIndex::Module(_) | UnpackedIndex::RecGroup(_) => None,
+        }
+    }
+
+    fn is_below(&self, a: UnpackedIndex, b: UnpackedIndex) -> bool {
+        let list = self.list;
+        let id = match a {
+            UnpackedIndex::Id(id) => id,
+            UnpackedIndex::Module(_) | UnpackedIndex::RecGroup(_) => return same_index(a, b),
+        };
+        match b {
+            UnpackedIndex::Id(other) => list.id_is_below(id, other),
+            UnpackedIndex::Module(_) | UnpackedIndex::RecGroup(_) => false,
         }
     }
 }
@@ -312,15 +254,7 @@ impl<'a, A: Allocator + Copy> WasmModuleResources for ModuleResources<'a, A> {
     }
 
     fn is_subtype(&self, a: ValType, b: ValType) -> bool {
-        match (a, b) {
-            (ValType::Ref(a), ValType::Ref(b)) => self.ref_matches(a, b),
-            (ValType::I32, ValType::I32)
-            | (ValType::I64, ValType::I64)
-            | (ValType::F32, ValType::F32)
-            | (ValType::F64, ValType::F64)
-            | (ValType::V128, ValType::V128) => true,
-            _ => false,
-        }
+        val_matches(self, a, b)
     }
 
     fn is_shared(&self, ty: RefType) -> bool {

@@ -7,6 +7,7 @@
 mod composite_types;
 mod declared;
 mod forwarded;
+mod matching;
 mod resources;
 mod value_types;
 
@@ -15,6 +16,7 @@ pub use composite_types::{
     check_composite_type,
 };
 pub use declared::{is_above_bottom, is_shared, matches_kind, same_index};
+pub use matching::{DeclaredTypes, val_matches};
 pub use resources::WasmModuleResources;
 pub use value_types::{check_ref_type, check_value_type};
 

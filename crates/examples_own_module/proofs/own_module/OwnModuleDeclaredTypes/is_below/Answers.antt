@@ -4,7 +4,7 @@ use Rattle.wasm_readers_types.specs.SeenTypes.{sub_of}
 use Rattle.wasm_validator_resources.specs.Answers.{same_index}
 use Rattle.examples_own_module.specs.OwnContexts.{under_ids}
 use Rattle.examples_own_module.proofs.Types.{length-declares}
-use Rattle.examples_own_module.proofs.own_module.OwnModule.is_below.Goals as goal
+use Rattle.examples_own_module.proofs.own_module.OwnModuleDeclaredTypes.is_below.Goals as goal
 
 pub returns : goal.returns
 returns g c =

@@ -1,6 +1,6 @@
 use Rattle.std.proofs.Common.{◌∙◌}
 use Rattle.wasm_validator_core_resources.proofs.ContextTypes.{not_below, ids_below, not_above}
-use Rattle.wasm_validator_core_resources.proofs.resources.ModuleResources.is_below.Goals as goal
+use Rattle.wasm_validator_core_resources.proofs.resources.ModuleResourcesDeclaredTypes.is_below.Goals as goal
 
 pub returns-in-Module : goal.returns-in-Module
 returns-in-Module g c = c.same_index.ensures ∙ not_below c.self.inside c.args.self.now c.self.view_is c.self.invariant c.args.a c.args.b c.in-Module.is

@@ -4,7 +4,7 @@ use Rattle.wasm_readers_types.specs.SeenTypes.{sub_of}
 use Rattle.wasm_validator_resources.specs.Answers.{same_index}
 use Rattle.examples_own_module.specs.OwnContexts.{under_ids}
 use Rattle.examples_own_module.proofs.Types.{type_read, no_id_declares}
-use Rattle.examples_own_module.proofs.own_module.OwnModule.type_for.Goals as goal
+use Rattle.examples_own_module.proofs.own_module.OwnModuleDeclaredTypes.type_for.Goals as goal
 
 pub returns-in-Id : goal.returns-in-Id
 returns-in-Id g c =
