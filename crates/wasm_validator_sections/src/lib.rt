@@ -8,7 +8,6 @@ mod entry_items;
 mod module_sections;
 pub mod module_state;
 mod plain_items;
-mod single_items;
 
 pub use code::started;
 pub use code_state::{CodeState, MAX_FUNCTION_SIZE};

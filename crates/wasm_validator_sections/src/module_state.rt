@@ -1,6 +1,6 @@
 //! What is kept of a module while its sections are read.
 
-ghost use Rattle.std.specs.Prelude.{◌≡◌, ◌≤◌, [], None, IfErr, OnOk};
+ghost use Rattle.std.specs.Prelude.{◌≡◌, ◌≤◌, ◌+◌, [], None, nat_le, is_ok, length, IfErr, OnOk};
 ghost use Rattle.wasm_spec_rules.specs.FeatureFlags.{features_of};
 ghost use Rattle.wasm_readers_bytes.specs.Reader.{SameInput, position_in, rest};
 ghost use Rattle.wasm_readers_types.specs.SeenExterns.{table_of};
@@ -16,13 +16,31 @@ ghost use Rattle.wasm_validator_items.specs.WasmValidatorReferences.References.{
 ghost use Rattle.wasm_validator_items.specs.Answers.{StandsBehind};
 ghost use Rattle.wasm_validator_sections.specs.Singles.{next_table, next_global, next_element, next_data};
 
-use crate::single_items;
 use std::alloc::{Allocator, Global};
-use wasm_readers::{BinaryReader, TableType, WasmFeatures};
+use wasm_readers::{BinaryReader, Counted, Refusal, TableType, WasmFeatures};
 use wasm_validator_items::references::ReferencedFunctions;
-use wasm_validator_items::validator_core::{Error, Module};
-use wasm_validator_items::{Constants, check_next_data, tells_types_apart};
+use wasm_validator_items::validator_core::{Error, MAX_ELEMENT_SEGMENTS, Module, check_max};
+use wasm_validator_items::{
+    Constants, add_next_element, add_next_global, add_next_table, check_next_data,
+    tells_types_apart,
+};
 use wasm_validator_types::TypeList;
+
+/// Accepts one element segment more, besides those that are there.
+fn check_element_room<A: Allocator + Copy>(opened: &Module<A>, offset: u64) -> Result<(), Refusal>
+    ensures fits { is_ok result ≡ nat_le (length opened.now.elements + 1) MAX_ELEMENT_SEGMENTS }
+    ensures room { OnOk result (length opened.now.elements + 1 ≤ MAX_ELEMENT_SEGMENTS) }
+    ensures place { IfErr result (λ r. r.offset ≡ offset) }
+{
+    let there = opened.spaces().element_count() as usize;
+    check_max(
+        there,
+        1,
+        MAX_ELEMENT_SEGMENTS,
+        Counted::ElementSegments,
+        offset,
+    )
+}
 
 /// A module while its sections are read.
 #[derive(Drop)]
@@ -112,10 +130,13 @@ impl<A: Allocator + Copy> ModuleState<A> {
         ensures onward { position_in reader.old ≤ position_in reader.new }
         ensures place { IfErr result (StandsBehind reader.old) }
     {
-        single_items::add_table(
+        tells_types_apart(list);
+        constants.update(list)?;
+        add_next_table(
             features,
             list,
-            constants,
+            &constants.types,
+            &mut constants.memory,
             &mut self.module,
             &mut self.referenced,
             reader,
@@ -156,10 +177,13 @@ impl<A: Allocator + Copy> ModuleState<A> {
         ensures onward { position_in reader.old ≤ position_in reader.new }
         ensures place { IfErr result (StandsBehind reader.old) }
     {
-        single_items::add_global(
+        tells_types_apart(list);
+        constants.update(list)?;
+        add_next_global(
             features,
             list,
-            constants,
+            &constants.types,
+            &mut constants.memory,
             &mut self.module,
             &mut self.referenced,
             reader,
@@ -199,10 +223,14 @@ impl<A: Allocator + Copy> ModuleState<A> {
         ensures onward { position_in reader.old ≤ position_in reader.new }
         ensures place { IfErr result (StandsBehind reader.old) }
     {
-        single_items::add_element(
+        check_element_room(&self.module, reader.original_position())?;
+        tells_types_apart(list);
+        constants.update(list)?;
+        add_next_element(
             features,
             list,
-            constants,
+            &constants.types,
+            &mut constants.memory,
             &mut self.module,
             &mut self.referenced,
             reader,
