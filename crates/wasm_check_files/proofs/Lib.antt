@@ -2,3 +2,4 @@ pub mod WorstStatuses
 mod TypeListRoom
 pub mod FilesByName
 mod NamesFound
+mod PrintedReports

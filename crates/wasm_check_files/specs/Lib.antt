@@ -3,3 +3,4 @@ pub mod Statuses
 pub mod ExitStatuses
 pub mod FoundFiles
 pub mod CountedFiles
+pub mod PrintedReports

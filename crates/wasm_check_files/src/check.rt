@@ -1,10 +1,12 @@
 //! Files are checked, and the exit status says what was found.
 
-ghost use Rattle.std.specs.Prelude.{◌≡◌, ◌≤◌, ◌⊎◌, IfOk, OnOk, length, map, string_bytes, Some, ⊤};
+ghost use Rattle.std.specs.Prelude.{◌≡◌, ◌≤◌, ◌⊎◌, ℕ, List, IfOk, OnOk, length, map, option_map, string_bytes, Some, ⊤};
 ghost use Rattle.std.specs.List.{All};
+ghost use Rattle.std.specs.Io.KnownBytes.{Appends};
 ghost use Rattle.wasm_check_reports.specs.WasmValidateFiles.Files.{IsRead, HasRoomForAll};
 ghost use Rattle.wasm_check_reports.specs.Summaries.{with_answers};
 ghost use Rattle.wasm_check_files.specs.CountedFiles.{AreCounted};
+ghost use Rattle.wasm_check_files.specs.PrintedReports.{IsReport, ArePrinted, AreReported};
 ghost use Rattle.wasm_check_files.specs.ExitStatuses.{StatusTells, WereChecked, room_for};
 ghost use Rattle.wasm_check_files.specs.Statuses.{IsWorst, status_at, status_of, status_of_error};
 
@@ -226,6 +228,8 @@ pub fn check_inputs<W: Write, E: Write>(
     ensures told { IfOk result (StatusTells settings.now.features
         (HasRoomForAll settings.now.features) files.now) }
     ensures counted { OnOk result (AreCounted settings.now.features files.now summary.old summary.new) }
+    ensures printed { OnOk result (AreReported settings.now files.now
+        (W.contents out.old) (W.contents out.new)) }
     ensures silent { IfOk result (λ status. (status ≡ STATUS_TROUBLE → ⊥) → err.new ≡ err.old) }
     ensures quiet { settings.now.form ≡ Form.Quiet → out.new ≡ out.old }
 {
@@ -267,6 +271,7 @@ fn tell_refused_memory<E: Write>(
 }
 
 /// Prints of each file what is asked for, unless nothing is.
+#[tactic(auto, using(crate::proofs::PrintedReports::printings))]
 fn print_wanted<W: Write>(
     alloc: Global,
     files: &[Input],
@@ -274,6 +279,8 @@ fn print_wanted<W: Write>(
     settings: &Settings,
     out: &mut W,
 ) -> io::Result<()>
+    ensures printed { OnOk result (ArePrinted settings.now answers.now files.now
+        (W.contents out.old) (W.contents out.new)) }
     ensures quiet { settings.now.form ≡ Form.Quiet → out.new ≡ out.old }
 {
     match settings.form {
@@ -289,13 +296,31 @@ fn print_reports<W: Write>(
     answers: &[Answer<Global>],
     settings: &Settings,
     out: &mut W,
-) -> io::Result<()> {
+) -> io::Result<()>
+    ensures { OnOk result (ArePrinted settings.now answers.now files.now
+        (W.contents out.old) (W.contents out.new)) }
+{
     'files: for (place, file) in files.iter().enumerate() {
-        let mut text = String::new(alloc);
-        write_report(&mut text, alloc, file, answers.get(place), settings)?;
-        out.write_all(text.as_bytes())?;
+        print_report(alloc, file, answers.get(place), settings, out)?;
     }
     Ok(())
+}
+
+/// Prints of a file what is asked for.
+fn print_report<W: Write>(
+    alloc: Global,
+    file: &Input,
+    answer: Option<&Answer<Global>>,
+    settings: &Settings,
+    out: &mut W,
+) -> io::Result<()>
+    ensures { OnOk result ((text : List ℕ) × IsReport settings.now file.now
+        (option_map (λ a. a.now) answer.entry) text
+        × Appends (W.contents out.old) (W.contents out.new) text) }
+{
+    let mut text = String::new(alloc);
+    write_report(&mut text, alloc, file, answer, settings)?;
+    out.write_all(text.as_bytes())
 }
 
 /// The larger of two statuses.

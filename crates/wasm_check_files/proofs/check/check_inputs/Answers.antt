@@ -3,6 +3,7 @@ use Rattle.std.proofs.lemmas.List.{length-map}
 use Rattle.wasm_check_reports.specs.WasmValidateFiles.Files.{bytes_held}
 use Rattle.wasm_check_reports.specs.WasmValidateFiles.Answers.{AreAnswers}
 use Rattle.wasm_check_reports.specs.Summaries.{with_answers}
+use Rattle.wasm_check_files.specs.PrintedReports.{ArePrinted}
 use Rattle.wasm_check_files.specs.Statuses.{IsWorst}
 use Rattle.wasm_check_files.proofs.WorstStatuses.{status_tells}
 use Rattle.wasm_check_files.proofs.check.check_inputs.Goals as goal
@@ -22,4 +23,13 @@ returns-clause-counted g c = record {
   answers = c.in_ok-answers.answers.items;
   right = c.in_ok-answers.ensures;
   counted = c.count_answers.ensures ∙ ap (λ xs. with_answers c.args.summary.now xs (length c.args.files.now)) c.as_slice-2.ensures.value;
+}
+
+pub returns-clause-printed : goal.returns-clause-printed
+returns-clause-printed g c = record {
+  answers = c.in_ok-answers.answers.items;
+  right = c.in_ok-answers.ensures;
+  printed =
+      subst (λ xs. ArePrinted c.args.settings.now xs c.args.files.now (g.W.Write.contents c.args.out.now) (g.W.Write.contents c.print_wanted.new.out))
+      c.as_slice.ensures.value c.in_ok-print_wanted.ensures.printed;
 }
