@@ -107,7 +107,8 @@ fn add_entries<'a, A: Allocator + Copy>(
     add_items(&mut kind, section)
 }
 
-/// Adds the imports of an import section. Where `COMPACT_IMPORTS` is off, each entry is one.
+/// Adds the imports of an import section. Where `COMPACT_IMPORTS` is off, each entry is one. Their
+/// names are found by a key of the section's own.
 pub fn add_imports<'a, A: Allocator + Copy>(
     features: WasmFeatures,
     list: &TypeList<A>,
@@ -326,7 +327,37 @@ pub fn add_elements<'a, A: Allocator + Copy>(
     add_items(&mut kind, section)
 }
 
-/// Adds the exports of an export section, and notes the functions that they name.
+/// Adds the exports of an export section one by one, and notes the functions that they name.
+fn add_each_export<'a, A: Allocator + Copy>(
+    features: WasmFeatures,
+    alloc: A,
+    list: &TypeList<A>,
+    state: &mut ModuleState<A>,
+    section: &SectionLimited<'a, Export<'a>, A>,
+) -> Result<(), Error<A>>
+    ensures added { Adds result (export_items (features_of features) (types_of_list list.now)
+        (count_of section.now) (bytes_of section.now) state.old.«module»)
+        state.new.«module» }
+    ensures noted { OnOk result (noted_of state.new ≡ naming (names_of_exports
+        (count_of section.now) (bytes_of section.now)) (noted_of state.old)) }
+    ensures types { state.new.«module».types ≡ state.old.«module».types }
+    ensures place { IfErr result (StandsBetween (section_start section.now)
+        (section_end section.now)) }
+    ensures told { IfErr result (OfContent (TellsExports features section.now
+        (types_of_list list.now) state.old.«module»)) }
+{
+    let mut kind = ExportItems {
+        features,
+        alloc: &alloc,
+        list,
+        opened: &mut state.module,
+        referenced: &mut state.referenced,
+    };
+    add_items(&mut kind, section)
+}
+
+/// Adds the exports of an export section, and notes the functions that they name. Their names are
+/// found by a key of the section's own.
 pub fn add_exports<'a, A: Allocator + Copy>(
     features: WasmFeatures,
     alloc: A,
@@ -346,12 +377,5 @@ pub fn add_exports<'a, A: Allocator + Copy>(
         (types_of_list list.now) state.old.«module»)) }
 {
     state.module.key_names(section.reader().remaining());
-    let mut kind = ExportItems {
-        features,
-        alloc: &alloc,
-        list,
-        opened: &mut state.module,
-        referenced: &mut state.referenced,
-    };
-    add_items(&mut kind, section)
+    add_each_export(features, alloc, list, state, section)
 }

@@ -14,7 +14,7 @@ use Rattle.wasm_validator_sections.specs.ModuleNotes.{noted_of}
 use Rattle.wasm_validator_sections.specs.Sections.{read_one}
 use Rattle.wasm_validator_sections.specs.SectionFaults.{IsNone, TellsOfExport}
 use Rattle.wasm_validator_sections.proofs.ConstantSections.{section_noted}
-use Rattle.wasm_validator_sections.proofs.module_sections.add_exports.Goals as goal
+use Rattle.wasm_validator_sections.proofs.module_sections.add_each_export.Goals as goal
 
 pub returns-clause-added : goal.returns-clause-added
 returns-clause-added g c =
