@@ -39,7 +39,7 @@ of_others-append n [] ys a b = b
 of_others-append n (x ∷ xs) ys a b = (a.0, of_others-append n xs ys a.1 b)
 
 -- no types are told apart
-none_apart : (b : Bool) → AreApart b []
+pub none_apart : (b : Bool) → AreApart b []
 none_apart true = (record { one_id = λ j k d h. absurd cc }, λ k d h. absurd cc)
 none_apart false = λ k d h. absurd cc
 
@@ -48,7 +48,7 @@ pub same_end : (old new : BinaryReader) → SameInput old new → reader_end new
 same_end old new s = λ i. s.1 i + length (s.0 i)
 
 -- a body lies where its reader does
-within_bytes : (r : BinaryReader) (end n : ℕ) → original r + length (input r) ≤ end → end ≤ n → place_of_next r + length (rest r) ≤ n
+pub within_bytes : (r : BinaryReader) (end n : ℕ) → original r + length (input r) ≤ end → end ≤ n → place_of_next r + length (rest r) ≤ n
 within_bytes r end n e f =
     let a = length-drop (position_in r) (input r) in
     let b : position_in r ≤ length (input r) = r.within in

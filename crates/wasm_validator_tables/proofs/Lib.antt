@@ -1,2 +1,3 @@
 mod BodySearch
-mod EntryWrites
+mod ItemWrites
+mod TablesMade

@@ -1,19 +1,18 @@
 -- The side table of the body of one function of a module.
-use Rattle.std.specs.Prelude.{ℕ, ◌≡◌, ◌≢◌, ◌≤◌, ◌<◌, ◌+◌, ◌^◌, List, [], ◌∷◌, length, Option, Some, None, Result, Ok, Err, ⊤}
+use Rattle.std.specs.Prelude.{ℕ, ◌≡◌, ◌≢◌, ◌≤◌, ◌<◌, ◌+◌, ◌^◌, List, [], ◌∷◌, length, Option, Some, None, ⊤}
 use Rattle.wasm_spec.specs.Framing.{Piece, IsFramed}
 use Rattle.wasm_spec_rules.specs.FeatureFlags.{features_of}
 use Rattle.wasm_readers_errors.specs.WasmReadersFeatures.declared.features.WasmFeatures.{WasmFeatures}
 use Rattle.wasm_readers_bytes.specs.Reader.{place_of_next}
 use Rattle.wasm_parser.specs.Machine.{State, next_of}
 use Rattle.wasm_parser.specs.PayloadViews.{body_reader}
-use Rattle.wasm_validator_modules.specs.WasmValidatorCore.declared.error.Error.{Error}
 use Rattle.wasm_validator_modules.specs.WasmValidatorCore.declared.error.Error.TheVariants.{Refused, DuplicateExport, InFunction, OutOfMemory}
 use Rattle.wasm_validator_modules.specs.ValidatorStages.{Standing, fresh}
 use Rattle.wasm_validator_modules.specs.States.{BodyToValidate, after_piece, handed}
 use Rattle.wasm_validator_modules.specs.Payloads.{HasTaken, IsBodyOfIts, after_all, all_handed}
 use Rattle.wasm_validator_modules.specs.Verdict.{AreNoneUpToBodies}
 use Rattle.wasm_validator_states.specs.BodyAnswers.{body_seen}
-use Rattle.wasm_validator_modules.specs.PayloadAnswers.{ShowsModule, GivenEndBy, EndsBy, bodies_given}
+use Rattle.wasm_validator_modules.specs.PayloadAnswers.{ShowsModule, EndsBy, bodies_given}
 use Rattle.wasm_validator_modules.specs.declared.payload.ValidPayload.{ValidPayload}
 use Rattle.wasm_validator_side_table.specs.Tables.{IsTableOf}
 use Rattle.wasm_validator_side_table.specs.declared.table.SideTable.{SideTable}

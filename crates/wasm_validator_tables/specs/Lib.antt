@@ -1,2 +1,4 @@
 pub mod FunctionTables
 pub mod TableReports
+pub mod ModuleTables
+pub mod ModuleReports

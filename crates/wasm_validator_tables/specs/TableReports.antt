@@ -7,26 +7,22 @@ use Rattle.wasm_validator_side_table.specs.declared.table.SideTable.{SideTable}
 use Rattle.wasm_validator_tables.specs.declared.report.TableCounts.{TableCounts}
 use Rattle.wasm_validator_tables.specs.FunctionTables.{IsTableIn}
 
--- these stand in the array from its beginning, as far as there is room, and all behind them is as it was
-pub record EntriesTell (given old new : List Entry) : Type 0 where
+-- These stand in the array from its beginning, as far as there is room, and all behind them is as it was.
+pub record AreWritten {X : Type 0} (given old new : List X) : Type 0 where
   pub room : length new ≡ length old
-  pub told : (k : ℕ) (e : Entry) → k < length given → slice_get new k ≡ Some e → slice_get given k ≡ Some e
+  pub told : (k : ℕ) (x : X) → k < length given → slice_get new k ≡ Some x → slice_get given k ≡ Some x
   pub others : (k : ℕ) → length given ≤ k → slice_get new k ≡ slice_get old k
 
 -- how many entries there are, from where to where the instructions stand, and how many operands and locals there are at most
-pub record CountsTell {A : Type 0} (t : SideTable A) (c : TableCounts) : Type 0 where
-  pub entries : c.entries ≡ length t.entries.items
-  pub first : c.first ≡ t.first
-  pub end : c.end ≡ t.end
-  pub operands : c.operands ≡ t.operands
-  pub locals : c.locals ≡ t.locals
+abbrev pub counts_in : {A : Type 0} → SideTable A → TableCounts
+counts_in t = record { entries = length t.entries.items; first = t.first; end = t.end; operands = t.operands; locals = t.locals }
 
 -- The table of a function's body is told.
 pub record IsTold (bytes : List ℕ) (features : WasmFeatures) (function : ℕ) (c : TableCounts) (old new : List Entry) : Type 0 where
   pub table : SideTable Global
   pub is : IsTableIn bytes features function table
-  pub counts : CountsTell table c
-  pub entries : EntriesTell table.entries.items old new
+  pub counts : c ≡ counts_in table
+  pub entries : AreWritten table.entries.items old new
 
 -- nothing was written
 pub record Stays (c0 c1 : TableCounts) (old new : List Entry) : Type 0 where

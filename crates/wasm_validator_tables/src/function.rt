@@ -55,8 +55,8 @@ pub fn make_table<A: Allocator + Copy>(
         Ok(found) => found,
         Err(why) => return Err(why),
     };
-    match make_for(alloc, found, table) {
-        Ok(()) => Ok(()),
+    match make_for(FuncValidatorAllocations::new(alloc), found, table) {
+        Ok(_memory) => Ok(()),
         Err(why) => Err(why),
     }
 }
@@ -128,21 +128,20 @@ fn pick<'a, A: Allocator>(valid: ValidPayload<'a, A>, function: u32) -> Option<F
     }
 }
 
-/// The side table of a body that was handed out.
-fn make_for<A: Allocator + Copy>(
-    alloc: A,
+/// Makes the side table of a body that was handed out, in memory that is given back.
+pub fn make_for<A: Allocator + Copy>(
+    memory: FuncValidatorAllocations<A>,
     found: Found<'_, A>,
     table: &mut SideTable<A>,
-) -> Result<(), NoTable<A>>
+) -> Result<FuncValidatorAllocations<A>, NoTable<A>>
     ensures made { OnOk result (IsMade (found_seen found.entry) (found_at found.entry) table.new) }
     ensures decides { IfErr result (TellsOf (found_seen found.entry) (found_at found.entry)) }
     ensures empty { OnErr result (IsEmptyTable table.new) }
 {
     let Found { function, body } = found;
     let index = function.index;
-    let memory = FuncValidatorAllocations::new(alloc);
     match validate_with_side_table(function, &body, memory, table) {
-        Ok(_memory) => Ok(()),
+        Ok(memory) => Ok(memory),
         Err(SideTableError::Refused(refusal)) => {
             Err(NoTable::Refused(Error::InFunction { index, refusal }))
         }

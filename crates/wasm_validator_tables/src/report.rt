@@ -2,7 +2,7 @@
 
 ghost use Rattle.std.specs.Prelude.{◌≡◌, ◌<◌, length, slice_get, IfErr, OnOk, OnErr, Some};
 ghost use Rattle.wasm_validator_tables.specs.FunctionTables.{Tells};
-ghost use Rattle.wasm_validator_tables.specs.TableReports.{CountsTell, EntriesTell, IsTold, Stays};
+ghost use Rattle.wasm_validator_tables.specs.TableReports.{AreWritten, IsTold, Stays, counts_in};
 
 use crate::function::{NoTable, make_table};
 use std::alloc::{Allocator, Global};
@@ -49,15 +49,16 @@ pub fn tell_table(
     match make_table(alloc, bytes, features, function, &mut table) {
         Ok(()) => {
             *counts = counts_of(&table);
-            write_entries(entries, table.entries());
+            write_all(entries, table.entries());
             Ok(())
         }
         Err(why) => Err(why),
     }
 }
 
-fn counts_of<A: Allocator>(table: &SideTable<A>) -> TableCounts
-    ensures { CountsTell table.now result }
+/// What is told of a table beside its entries.
+pub fn counts_of<A: Allocator>(table: &SideTable<A>) -> TableCounts
+    ensures { result ≡ counts_in table.now }
 {
     TableCounts {
         entries: table.entries().len() as u64,
@@ -69,16 +70,16 @@ fn counts_of<A: Allocator>(table: &SideTable<A>) -> TableCounts
 }
 
 /// Writes as many of these as there is room for.
-fn write_entries(to: &mut [Entry], given: &[Entry])
-    ensures { EntriesTell given.now to.old to.new }
+pub fn write_all<T: Copy>(to: &mut [T], given: &[T])
+    ensures { AreWritten given.now to.old to.new }
 {
     let most = to.len().min(given.len());
-    'entries: for k in 0..most {
-        to[k] = entry_at(given, k);
+    'items: for k in 0..most {
+        to[k] = item_at(given, k);
     }
 }
 
-fn entry_at(given: &[Entry], k: usize) -> Entry
+fn item_at<T: Copy>(given: &[T], k: usize) -> T
     requires { k < length given.now }
     ensures { slice_get given.now k ≡ Some result }
 {
