@@ -9,15 +9,15 @@ ghost use Rattle.ruthvelka_c.specs.Handles.{AreModuleHere, SaysLinked, SaysMatch
 ghost use Rattle.ruthvelka_c.specs.Reports.{flags};
 
 use crate::lists::not_checked;
-use crate::queries::{UNKNOWN, judge_below, nth_export, nth_import, say, say_given};
+use crate::queries::{UNKNOWN, judge_below, say, say_given};
 use crate::report::{Answer, Report, report_counts, report_of, report_refusal, write_message};
 use std::alloc::Global;
 use wasm_validator_handles::validator::{
     CoreTypeId, Error, Flags, Types, Validator, ValidatorId, WasmFeatures,
 };
 use wasm_validator_handles::{
-    Handle, Kept, NotAsked, ValueType, are_one, longer, match_values, write_function_ids,
-    write_type_ids,
+    Handle, Kept, NotAsked, ValueType, are_one, longer, match_values, nth_export, nth_import,
+    write_function_ids, write_type_ids,
 };
 
 /// It was done.

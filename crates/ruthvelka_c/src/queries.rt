@@ -1,17 +1,16 @@
 //! Questions about the modules of one list: whether a type is below another one, and whether an
 //! export may be given for an import.
 
-ghost use Rattle.std.specs.Prelude.{◌≡◌, ◌<◌, if◌then◌else◌, length, slice_get, Some};
+ghost use Rattle.std.specs.Prelude.{◌≡◌, if◌then◌else◌};
 ghost use Rattle.std.specs.Bool.{Decides};
 ghost use Rattle.std.specs.Option.{option_map};
 ghost use Rattle.wasm_validator_handles.specs.WasmValidator.WasmValidatorTypes.Entities.{entity_of};
-ghost use Rattle.wasm_validator_handles.specs.WasmValidator.WasmValidatorTypes.Rows.{all_imports};
-ghost use Rattle.wasm_validator_handles.specs.WasmValidator.WasmValidatorTypes.ShownModules.{shown_by};
 ghost use Rattle.ruthvelka_c.specs.Queries.{AnswersQuery, IsBelow, IsSaid, MayBeGiven, QueriesTell, Says, SaysBelow, SaysGiven};
 ghost use Rattle.ruthvelka_c.specs.Queries.{accepted, exported_at, imported_at, list_behind, type_at, types_at};
 
 use crate::report::Answer;
-use wasm_validator_handles::validator::{CoreTypeId, EntityType, TypeList, Types, TypesRef};
+use wasm_validator_handles::validator::{CoreTypeId, EntityType, TypeList, Types};
+use wasm_validator_handles::{item_at, nth_export, nth_import, nth_type};
 
 /// The kind of a question: is the first type the second one or below it?
 pub const IS_SUBTYPE: u32 = 0;
@@ -42,17 +41,10 @@ pub fn answer_queries(answers: &[Answer], queries: &mut [Query])
     ensures { QueriesTell answers.now queries.old queries.new }
 {
     'queries: for k in 0..queries.len() {
-        let asked = query_at(queries, k);
+        let asked = item_at(queries, k);
         let answered = answer_query(answers, asked);
         queries[k] = answered;
     }
-}
-
-fn query_at(queries: &[Query], k: usize) -> Query
-    requires { k < length queries.now }
-    ensures { slice_get queries.now k ≡ Some result }
-{
-    queries[k]
 }
 
 /// The question with its answer.
@@ -208,44 +200,4 @@ fn find_import(answers: &[Answer], place: u32, number: u32) -> Option<EntityType
 {
     let types = find_types(answers, place)?;
     nth_import(&types.as_ref(), number)
-}
-
-fn nth_type(types: &TypesRef<'_>, index: u32) -> Option<CoreTypeId>
-    ensures { option_map (λ id. id.index) result ≡ slice_get (shown_by types.now).spaces.types index }
-{
-    if index < types.core_type_count_in_module() {
-        Some(types.core_type_at_in_module(index))
-    } else {
-        None
-    }
-}
-
-pub fn nth_export(types: &TypesRef<'_>, number: u32) -> Option<EntityType>
-    ensures { option_map entity_of result ≡ option_map (λ e. e.1)
-        (slice_get (shown_by types.now).spaces.exports number) }
-{
-    let mut exports = types.core_exports()?;
-    let mut left = number;
-    'exports: while let Some((_, entity)) = exports.next() {
-        if left == 0 {
-            return Some(entity);
-        }
-        left -= 1;
-    }
-    None
-}
-
-pub fn nth_import(types: &TypesRef<'_>, number: u32) -> Option<EntityType>
-    ensures { option_map entity_of result ≡ option_map (λ i. i.2)
-        (slice_get (all_imports (shown_by types.now).spaces.imports) number) }
-{
-    let mut imports = types.core_imports()?;
-    let mut left = number;
-    'imports: while let Some((_, _, entity)) = imports.next() {
-        if left == 0 {
-            return Some(entity);
-        }
-        left -= 1;
-    }
-    None
 }

@@ -15,8 +15,8 @@ use crate::report::{Report, report_counts};
 use std::alloc::Global;
 use wasm_validator_handles::validator::ValType;
 use wasm_validator_handles::{
-    ExternType, Handle, Kept, Signature, ValueType, find_signature, gather_externs, tell_value,
-    write_bytes,
+    ExternType, Handle, Kept, Signature, ValueType, find_signature, gather_externs, item_at,
+    tell_value, write_bytes,
 };
 
 /// How many values a function takes and gives. C reads it as part of `struct ruthvelka_signature`.
@@ -83,15 +83,8 @@ fn write_types(to: &mut [ExternType], given: &[ExternType])
 {
     let most = to.len().min(given.len());
     'types: for k in 0..most {
-        to[k] = type_at(given, k);
+        to[k] = item_at(given, k);
     }
-}
-
-fn type_at(given: &[ExternType], k: usize) -> ExternType
-    requires { k < length given.now }
-    ensures { slice_get given.now k ≡ Some result }
-{
-    given[k]
 }
 
 /// Tells how many values a function of the type with this id takes and gives, and writes them, as far

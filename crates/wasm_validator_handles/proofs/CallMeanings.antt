@@ -3,7 +3,6 @@ use Rattle.std.proofs.Common.{◌≡◌, refl, sym, ap, subst, ◌∙◌, ◌⊎
 use Rattle.std.specs.declared.result.Result.TheVariants.{Ok, Err}
 use Rattle.wasm_validator.specs.ValidatorStages.{Stage, unparsed, in_module, in_code, ended, failed, Standing, can_reset_at, may_reset, reset_at, after_reset}
 use Rattle.wasm_validator.specs.Verdict.{DecidesModule, EndsModule, StopsModule}
-use Rattle.wasm_validator.specs.WasmValidatorTypes.declared.shown.Types as shown
 use Rattle.wasm_validator.specs.Lists.{DecidesEach}
 use Rattle.wasm_validator.proofs.Headline.{headline}
 use Rattle.wasm_validator_handles.specs.declared.kept.Kept.{Kept}

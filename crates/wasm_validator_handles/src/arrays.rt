@@ -1,11 +1,19 @@
 //! What is written into a caller's arrays, as far as there is room.
 
-ghost use Rattle.std.specs.Prelude.{◌≡◌, ◌<◌, length, map, slice_index};
+ghost use Rattle.std.specs.Prelude.{◌≡◌, ◌<◌, length, map, slice_get, slice_index, Some};
 ghost use Rattle.wasm_validator.specs.WasmValidatorTypes.ShownModules.{shown_by};
 ghost use Rattle.wasm_validator_handles.specs.Arrays.{AreWritten, HasText};
 
 use std::alloc::Allocator;
 use wasm_validator::TypesRef;
+
+/// One of these items.
+pub fn item_at<T: Copy>(given: &[T], k: usize) -> T
+    requires { k < length given.now }
+    ensures { slice_get given.now k ≡ Some result }
+{
+    given[k]
+}
 
 /// Writes as much of a text as there is room for, and gives the length of the whole.
 pub fn write_text(to: &mut [u8], text: &[u8]) -> u64

@@ -6,6 +6,7 @@
 mod arrays;
 mod entities;
 mod handle;
+mod items;
 mod kept;
 mod laws;
 mod loose;
@@ -15,10 +16,11 @@ mod signatures;
 mod values;
 
 pub use arrays::{
-    write_bytes, write_function_ids, write_name, write_numbers, write_text, write_type_ids,
+    item_at, write_bytes, write_function_ids, write_name, write_numbers, write_text, write_type_ids,
 };
 pub use entities::{Extern, ExternType, Externs, count_exports, count_imports, gather_externs};
 pub use handle::Handle;
+pub use items::{nth_export, nth_import, nth_type};
 pub use kept::{Answer, Kept, NotAsked};
 pub use laws::calls_say_of_all;
 pub use names::{all_features, find_feature, find_name};

@@ -1,6 +1,6 @@
 use Rattle.std.proofs.Common.{◌≡◌, length, slice_get}
-use Rattle.wasm_validator_handles.specs.WasmValidator.WasmValidatorTypes.IteratorItems.{exports_left}
-use Rattle.ruthvelka_c.proofs.queries.nth_export.Given as goal
+use Rattle.wasm_validator.specs.WasmValidatorTypes.IteratorItems.{exports_left}
+use Rattle.wasm_validator_handles.proofs.items.nth_export.Given as goal
 
 abbrev pub invariant-exports : goal.invariant-exports
 invariant-exports l = slice_get (exports_left l.exports) l.left ≡ slice_get (exports_left l.initial.exports) l.initial.left
