@@ -312,7 +312,8 @@ struct ruthvelka_side_table {
    the `end`. What is taken first, as a condition is, counts neither as kept nor as dropped. In code
    that isn't reached there may be fewer operands than a branch keeps, and it drops none then.
 
-   The whole module is validated first, so that each call takes as long as ruthvelka_check and more.
+   The whole module is validated first, so that each call takes as long as ruthvelka_check and more:
+   ruthvelka_side_tables makes the tables of all bodies in one.
 
    Result: DONE; REFUSED, where the module isn't valid; NO_MEMORY; or WRONG. WRONG too where the
    module is valid and has no body of that function, or one whose end lies past 4 GiB; where there
@@ -329,6 +330,65 @@ struct ruthvelka_side_table {
 uint32_t ruthvelka_side_table(const uint8_t *bytes, size_t length, uint64_t features,
     uint32_t function, char *message, size_t message_room, struct ruthvelka_outcome *outcome,
     struct ruthvelka_side_table *table, struct ruthvelka_side_entry *entries, size_t entry_room);
+
+/* What is told of the table of one body among those of all. */
+struct ruthvelka_body_table {
+    uint64_t start;    /* how many entries the bodies before have: its own stand behind them */
+    uint64_t entries;  /* how many entries it has */
+    uint32_t first;    /* the offset of the body's first instruction, behind its locals */
+    uint32_t end;      /* the offset behind its last instruction, an `end` */
+    uint32_t operands; /* how many operands it has at most at once */
+    uint32_t locals;   /* how many locals it has, parameters included */
+    uint32_t function; /* the index of its function, imported ones counted */
+    uint32_t reserved; /* 0 */
+};
+
+/* How many tables and entries a module has. All but the sizes is written. */
+struct ruthvelka_side_tables {
+    uint64_t size;       /* given: sizeof(struct ruthvelka_side_tables) */
+    uint64_t table_size; /* given: sizeof(struct ruthvelka_body_table) */
+    uint64_t entry_size; /* given: sizeof(struct ruthvelka_side_entry) */
+    uint64_t tables;     /* how many bodies the module has, also where the room was less */
+    uint64_t entries;    /* how many entries they have together, also where the room was less */
+};
+
+/* ruthvelka_side_tables: the side tables of all bodies of a module that is valid under these
+   features, by itself. What is told of each body's table is written in the order of the bodies, and
+   the entries of all, one body's behind the other's: each as far as there is room, and nothing
+   behind them changes. The totals, which may be null where there is room for neither, tell how many
+   there are. `length` tables and `length` entries are always enough. The `next` of an entry counts
+   within its body: the entry behind a branch is `entries[tables[i].start + next]`. Message and
+   outcome are as of ruthvelka_check.
+
+   The module is validated once, and its tables are made meanwhile: so the call takes as long as
+   ruthvelka_check and a part more, however many bodies there are. One that isn't valid is looked at
+   twice, the first time up to where it isn't. What is told is kept until the module is known to be
+   valid, so the call takes as much memory again as all tables and entries, whatever the room is.
+
+   Result: DONE; REFUSED, where the module isn't valid; NO_MEMORY; or WRONG. WRONG too where the
+   module is valid and the end of a body lies past 4 GiB; where there is room and there are no
+   totals; and where the totals' size ends before their entries do, or tables or entries have another
+   size. Nothing is written then but message and outcome. Threads: any, side by side. Memory: as of
+   calls without a handle (ruthvelka_set_allocator).
+
+       struct ruthvelka_side_tables totals = {sizeof totals, sizeof(struct ruthvelka_body_table),
+           sizeof(struct ruthvelka_side_entry)};
+       if (ruthvelka_side_tables(bytes, length, RUTHVELKA_STANDARD, NULL, 0, NULL, &totals, NULL, 0,
+               NULL, 0) != RUTHVELKA_STATUS_DONE)
+           return refuse();
+       size_t table_room = (size_t)totals.tables, entry_room = (size_t)totals.entries;
+       struct ruthvelka_body_table *tables = calloc(table_room + 1, sizeof *tables);
+       struct ruthvelka_side_entry *entries = calloc(entry_room + 1, sizeof *entries);
+       if (!tables || !entries
+           || ruthvelka_side_tables(bytes, length, RUTHVELKA_STANDARD, NULL, 0, NULL, &totals,
+                  tables, table_room, entries, entry_room) != RUTHVELKA_STATUS_DONE)
+           return out_of_memory();
+       for (size_t i = 0; i < table_room; i++)
+           keep(tables[i].function, bytes + tables[i].first, entries + tables[i].start); */
+uint32_t ruthvelka_side_tables(const uint8_t *bytes, size_t length, uint64_t features,
+    char *message, size_t message_room, struct ruthvelka_outcome *outcome,
+    struct ruthvelka_side_tables *totals, struct ruthvelka_body_table *tables, size_t table_room,
+    struct ruthvelka_side_entry *entries, size_t entry_room);
 
 /* ----------------------------------------- Validators ----------------------------------------- */
 

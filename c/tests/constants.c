@@ -206,3 +206,20 @@ PLACE(ruthvelka_side_table, first, 24, 4);
 PLACE(ruthvelka_side_table, end, 28, 4);
 PLACE(ruthvelka_side_table, operands, 32, 4);
 PLACE(ruthvelka_side_table, locals, 36, 4);
+
+SIZE_OF(ruthvelka_body_table, 40);
+PLACE(ruthvelka_body_table, start, 0, 8);
+PLACE(ruthvelka_body_table, entries, 8, 8);
+PLACE(ruthvelka_body_table, first, 16, 4);
+PLACE(ruthvelka_body_table, end, 20, 4);
+PLACE(ruthvelka_body_table, operands, 24, 4);
+PLACE(ruthvelka_body_table, locals, 28, 4);
+PLACE(ruthvelka_body_table, function, 32, 4);
+PLACE(ruthvelka_body_table, reserved, 36, 4);
+
+SIZE_OF(ruthvelka_side_tables, 40);
+PLACE(ruthvelka_side_tables, size, 0, 8);
+PLACE(ruthvelka_side_tables, table_size, 8, 8);
+PLACE(ruthvelka_side_tables, entry_size, 16, 8);
+PLACE(ruthvelka_side_tables, tables, 24, 8);
+PLACE(ruthvelka_side_tables, entries, 32, 8);

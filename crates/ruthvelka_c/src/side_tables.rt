@@ -1,8 +1,10 @@
-//! The side table of the body of one function, for interpreters that run it in place.
+//! The side tables of one function's body, or of all, for interpreters that run them in place.
 
-ghost use Rattle.std.specs.Prelude.{◌≡◌, ◌≢◌, ◌⊎◌};
+ghost use Rattle.std.specs.Prelude.{◌≡◌, ◌≢◌, ◌⊎◌, true, false};
 ghost use Rattle.wasm_validator_handles.specs.WasmValidator.Verdict.{AreModule, AreNoModule};
 ghost use Rattle.wasm_validator_tables.specs.FunctionTables.{HasLargeBody, HasNoBody};
+ghost use Rattle.wasm_validator_tables.specs.ModuleReports.{AllStay, AreTold};
+ghost use Rattle.wasm_validator_tables.specs.ModuleTables.{HasSomeLargeBody};
 ghost use Rattle.wasm_validator_tables.specs.TableReports.{IsTold, Stays};
 ghost use Rattle.wasm_validator_handles.specs.Arrays.{HasText};
 ghost use Rattle.ruthvelka_c.specs.Reports.{Told, flags};
@@ -12,7 +14,9 @@ use crate::handles::{STATUS_DONE, STATUS_NO_MEMORY, STATUS_REFUSED, STATUS_WRONG
 use crate::report::{Report, report_of, write_message};
 use std::alloc::Global;
 use wasm_validator_handles::validator::{Flags, WasmFeatures};
-use wasm_validator_tables::{Entry, NoTable, TableCounts, tell_table};
+use wasm_validator_tables::{
+    BodyTable, Entry, NoTable, TableCounts, TableTotals, tell_table, tell_tables,
+};
 
 /// Validates one module with these proposals, as `ruthvelka_proved_validate` does. Of a valid module
 /// it tells of the side table of the body of the function with this index, and writes its entries,
@@ -71,4 +75,48 @@ fn tell(
         Err(NoTable::NoBody) => STATUS_WRONG,
         Err(NoTable::TooLarge) => STATUS_WRONG,
     }
+}
+
+/// Validates one module with these proposals, and makes the side tables of all its bodies meanwhile.
+/// Of a valid module it writes them, in their order, and their entries, as far as there is room. The
+/// call is wrong where a body ends past 32 bits.
+#[unsafe(no_mangle)]
+pub extern "C" fn ruthvelka_proved_side_tables(
+    alloc: Global,
+    bytes: &[u8],
+    features: u64,
+    message: &mut [u8],
+    report: &mut Report,
+    totals: &mut TableTotals,
+    tables: &mut [BodyTable],
+    entries: &mut [Entry],
+) -> u32
+    ensures told { Told bytes.now features report.new }
+    ensures valid { result ≡ STATUS_DONE → AreModule (flags features) bytes.now }
+    ensures tables { result ≡ STATUS_DONE → AreTold bytes.now (flags features) totals.new tables.old
+        tables.new entries.old entries.new }
+    ensures refused { result ≡ STATUS_REFUSED → AreNoModule (flags features) bytes.now }
+    ensures stays { result ≢ STATUS_DONE → AllStay totals.old totals.new tables.old tables.new
+        entries.old entries.new }
+    ensures wrong { result ≡ STATUS_WRONG → AreModule (flags features) bytes.now }
+    ensures large { result ≡ STATUS_WRONG → HasSomeLargeBody bytes.now (flags features) }
+    ensures message { HasText report.new.message_length message.old message.new }
+{
+    let features = WasmFeatures::from_bits_retain(features);
+    let told = tell_tables(alloc, bytes, features, totals, tables, entries);
+    let message_length = write_message(alloc, &told.answer, message);
+    *report = report_of(&told.answer, message_length);
+    match &told.answer {
+        Ok(_) => done_or_wrong(told.are_told),
+        Err(refusal) => error_status(refusal),
+    }
+}
+
+/// The status of a valid module whose tables were asked for.
+fn done_or_wrong(are_told: bool) -> u32
+    ensures done { result ≡ STATUS_DONE → are_told ≡ true }
+    ensures wrong { result ≢ STATUS_DONE → are_told ≡ false }
+    ensures accepted { result ≢ STATUS_REFUSED }
+{
+    if are_told { STATUS_DONE } else { STATUS_WRONG }
 }
