@@ -1,5 +1,5 @@
 -- Contexts over other identities.
-use Rattle.std.proofs.Common.{◌≡◌, ◌≢◌, refl, sym, ap, ◌∙◌, ℕ, zero, suc, ◌<◌, List, [], ◌∷◌, ◌++◌, map, slice_get, Option, Some, None, arith}
+use Rattle.std.proofs.Common.{◌≡◌, ◌≢◌, refl, sym, ap, ◌∙◌, ℕ, zero, suc, ◌<◌, List, [], ◌∷◌, ◌++◌, map, slice_get, slice_index_or, Option, Some, None, arith}
 use Rattle.std.specs.List.{flat_map, Contains}
 use Rattle.std.proofs.lemmas.List.Elements.{All-nil, All-cons, All-head, All-tail, All-contains_itself}
 use Rattle.std.proofs.lemmas.List.{map-append}
@@ -11,7 +11,7 @@ use Rattle.wasm_readers_errors.proofs.WasmSpec.SyntaxMaps.{map-map_by, map_ref-m
 use Rattle.wasm_spec_rules.specs.Parts.{Expression}
 use Rattle.wasm_spec_rules.specs.IndexSpaces.{type_at}
 use Rattle.wasm_spec_rules.specs.SegmentRules.{items_type}
-use Rattle.wasm_spec_rules.specs.Contexts.{declares_at, renamed_declared, context_over, ContextsAreRenamed, AreFirst, RepeatedTypeIsOne}
+use Rattle.wasm_spec_rules.specs.Contexts.{declares_at, renamed_declared, context_over, ContextsAreRenamed, AreFirst, RepeatedTypeIsOne, TypeOfOthersIsNone}
 
 module _ {R S : Type 0} (f : R → S) (n : DefType → R) where
   one_declares : (d : DefType) (o : Option (Sub DefType)) → map (renamed_declared f) (declares_at n d o) ≡ declares_at (λ x. f (n x)) d o
@@ -86,3 +86,12 @@ module _ (a b : DefType) (apart : a ≢ b) where
 
 pub repeated_type_is_one : RepeatedTypeIsOne
 repeated_type_is_one a b apart = repeated a b apart
+
+only_item : (a b : DefType) (k : ℕ) → k < 1 → slice_index_or (a ∷ []) k b ≡ b → a ≡ b
+only_item a b zero l e = e
+only_item a b (suc k) l e = absurd (omega (arith, l))
+
+pub type_of_others_is_none : TypeOfOthersIsNone
+type_of_others_is_none a b apart v =
+    let c = All-head (Contains (a ∷ [])) b [] (All-tail (Contains (a ∷ [])) a (b ∷ []) v.only) in
+    apart (only_item a b c.0 c.1 c.2)

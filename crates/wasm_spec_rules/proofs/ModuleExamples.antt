@@ -8,11 +8,12 @@ use Rattle.std.proofs.lemmas.Map.Made.{IsDistinct-from_count}
 use Rattle.std.proofs.lemmas.Option.{same_Some}
 use Rattle.std.specs.Str.{is_utf8}
 use Rattle.std.proofs.lemmas.Str.{is_utf8-from_IsUtf8, IsUtf8-from_ascii}
-use Rattle.wasm_readers_errors.specs.WasmSpec.Syntax.{Val, i32, Sub, map_sub}
+use Rattle.wasm_readers_errors.specs.WasmSpec.Syntax.{Val, i32, Sub, map_sub, Table}
 use Rattle.wasm_readers_errors.specs.WasmSpec.BinaryModules.{extern_at, import_at, entry_at}
 use Rattle.wasm_readers_errors.specs.WasmSpec.BinarySections.{GlobalEntry}
 use Rattle.wasm_readers_errors.specs.WasmSpec.Closing.{resolve}
 use Rattle.wasm_readers_errors.specs.WasmSpec.GroupRules.{IsValidType}
+use Rattle.wasm_readers_errors.specs.WasmSpec.Matching.{itself}
 use Rattle.wasm_readers_errors.proofs.WasmSpec.ReferenceNumbers.{members-close}
 use Rattle.wasm_readers_errors.specs.WasmSpec.Framing.{Piece, Version, End, u16_at}
 use Rattle.wasm_spec_rules.specs.Parts.{Parts, Expression}
@@ -22,7 +23,7 @@ use Rattle.wasm_spec_rules.specs.LinkRules.{IsValidImport, IsValidExport, IsVali
 use Rattle.wasm_spec_rules.specs.SegmentRules.{IsValidElement, IsValidData}
 use Rattle.wasm_spec_rules.specs.Modules.{IsAllowedPiece}
 use Rattle.wasm_readers_errors.specs.WasmSpec.Trees.{TypeUse, DefType, close, denote, declared}
-use Rattle.wasm_spec_rules.specs.ModuleExamples.{TableOfOneOrTwo, NoTableOfTwoToOne, NoTableWithoutEntries, MemoryOfAllAddresses, NoMemoryPastAllAddresses, MemoryOfSmallPages, NoMemoryPastSmallPages, NoMemoryOfLargerPages, NoSharedGlobal, NoTagWithoutExceptions, NoMutableImport, MemoryIsExported, NoSecondMemory, NoNameTwice, SizeIsThree, NoPassiveElements, NoWrittenElements, OffsetsReference, NoPassiveData, NoTwoMemories, HeaderIsModule, NoVersionTwo, NoStartWithParameter, EntryOfOneTypeIsTwo, EntryWithTypesIsTwo, NoEntryIsTwo, first_version, taking_type}
+use Rattle.wasm_spec_rules.specs.ModuleExamples.{TableOfOneOrTwo, NoTableOfTwoToOne, NoTableWithoutEntries, MemoryOfAllAddresses, NoMemoryPastAllAddresses, MemoryOfSmallPages, NoMemoryPastSmallPages, NoMemoryOfLargerPages, NoSharedGlobal, NoTagWithoutExceptions, NoMutableImport, MemoryIsExported, NoSecondMemory, NoNameTwice, SizeIsThree, NoPassiveElements, NoWrittenElements, OffsetsReference, NoPassiveData, NoTwoMemories, HeaderIsModule, NoVersionTwo, NoStartWithParameter, EntryOfOneTypeIsTwo, EntryWithTypesIsTwo, NoEntryIsTwo, EachKindIsExported, NoDeclaredElements, FunctionsGoToTable, NoNullGoesToTable, AllExpressionsReference, OwnFunctionsAreExact, first_version, taking_type}
 use Rattle.wasm_spec_rules.specs.Limits.{most_segments, most_body_bytes}
 
 pub table_of_one_or_two : TableOfOneOrTwo
@@ -104,6 +105,29 @@ offsets_reference = refl
 
 pub no_passive_elements : NoPassiveElements
 no_passive_elements C v = let h : false ≡ true = v.mode in cc
+
+pub each_kind_is_exported : EachKindIsExported
+each_kind_is_exported = refl
+
+pub no_declared_elements : NoDeclaredElements
+no_declared_elements C v = let h : false ≡ true = v.mode in cc
+
+pub functions_go_to_table : FunctionsGoToTable
+functions_go_to_table = record { table = _; is_there = refl; matches = (λ n. refl, (refl, itself)) }
+
+pub no_null_goes_to_table : NoNullGoesToTable
+no_null_goes_to_table v =
+    let same = same_Some _ v.table v.is_there in
+    let h : v.table.element.nullable ≡ true = v.matches.0 refl in
+    let never : false ≡ v.table.element.nullable = ap (λ (t : Table ℕ). t.element.nullable) same in
+    let wrong : false ≡ true = never ∙ h in
+    cc
+
+pub all_expressions_reference : AllExpressionsReference
+all_expressions_reference = refl
+
+pub own_functions_are_exact : OwnFunctionsAreExact
+own_functions_are_exact C = refl
 
 pub no_passive_data : NoPassiveData
 no_passive_data C v = let h : false ≡ true = v in cc
@@ -235,4 +259,4 @@ pub no_entry_is_two : NoEntryIsTwo
 unfolding import_at extern_at
 no_entry_is_two = (rw (letter 0x6d (omega arith)) (rw nothing refl), rw (letter 0x6d (omega arith)) (rw nothing refl))
 
-pub ruleset examples = (table_of_one_or_two, no_table_of_two_to_one, no_table_without_entries, memory_of_all_addresses, no_memory_past_all_addresses, memory_of_small_pages, no_memory_past_small_pages, no_memory_of_larger_pages, no_shared_global, no_tag_without_exceptions, no_mutable_import, memory_is_exported, no_second_memory, no_name_twice, size_is_three, no_start_with_parameter, no_written_elements, offsets_reference, no_passive_elements, no_passive_data, no_two_memories, header_is_module, no_version_two)
+pub ruleset examples = (table_of_one_or_two, no_table_of_two_to_one, no_table_without_entries, memory_of_all_addresses, no_memory_past_all_addresses, memory_of_small_pages, no_memory_past_small_pages, no_memory_of_larger_pages, no_shared_global, no_tag_without_exceptions, no_mutable_import, memory_is_exported, no_second_memory, no_name_twice, size_is_three, no_start_with_parameter, no_written_elements, offsets_reference, no_passive_elements, no_passive_data, no_two_memories, header_is_module, no_version_two, each_kind_is_exported, no_declared_elements, functions_go_to_table, no_null_goes_to_table, all_expressions_reference, own_functions_are_exact)

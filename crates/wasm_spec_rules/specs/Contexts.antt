@@ -98,3 +98,7 @@ ContextsAreRenamed R S =
 -- A type that comes twice is one of the distinct types.
 abbrev pub RepeatedTypeIsOne : Type 0
 RepeatedTypeIsOne = (a b : DefType) → a ≢ b → AreFirst (a ∷ b ∷ a ∷ []) (a ∷ b ∷ [])
+
+-- One that it doesn't have is none of them.
+abbrev pub TypeOfOthersIsNone : Type 0
+TypeOfOthersIsNone = (a b : DefType) → a ≢ b → AreFirst (a ∷ []) (a ∷ b ∷ []) → ⊥

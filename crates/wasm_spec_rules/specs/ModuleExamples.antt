@@ -1,9 +1,9 @@
 -- Worked examples of the rules of modules, as facts that a contract can name: for each kind of item one that keeps its
 -- rules, or one that doesn't and the rule that it breaks.
-use Rattle.std.specs.Prelude.{ℕ, ◌≡◌, true, false, List, [], ◌∷◌, Option, Some, None}
-use Rattle.wasm_readers_errors.specs.WasmSpec.Syntax.{i32, i64, Table, Memory, func_extern, global_extern, func, Rec}
+use Rattle.std.specs.Prelude.{ℕ, ◌≡◌, true, false, List, [], ◌∷◌, map, Option, Some, None}
+use Rattle.wasm_readers_errors.specs.WasmSpec.Syntax.{i32, i64, Table, Memory, Global, func_extern, func_exact_extern, table_extern, memory_extern, global_extern, tag_extern, func, Rec}
 use Rattle.wasm_readers_errors.specs.WasmSpec.BinaryModules.{Import, Export}
-use Rattle.wasm_readers_errors.specs.WasmSpec.BinarySections.{funcref, ref_func, passive, active, functions, expressions}
+use Rattle.wasm_readers_errors.specs.WasmSpec.BinarySections.{funcref, ref_func, passive, active, declarative, functions, expressions}
 use Rattle.wasm_readers_errors.specs.WasmSpec.Features.{Features}
 use Rattle.wasm_readers_errors.specs.WasmSpec.Trees.{DefType}
 use Rattle.wasm_readers_errors.specs.WasmSpec.Closing.{type_space}
@@ -11,8 +11,9 @@ use Rattle.wasm_readers_errors.specs.WasmSpec.Framing.{Piece, Counted}
 use Rattle.wasm_spec_rules.specs.Parts.{Parts, Expression, imports_of}
 use Rattle.wasm_spec_rules.specs.IndexSpaces.{IndexSpaces}
 use Rattle.wasm_spec_rules.specs.ItemRules.{IsValidTable, IsValidTableEntry, IsValidMemory, IsValidTag, IsValidGlobal}
-use Rattle.wasm_spec_rules.specs.LinkRules.{IsValidImport, IsValidExport, HasDistinctNames, effective_size, IsValidStart, referenced}
-use Rattle.wasm_spec_rules.specs.SegmentRules.{IsValidElement, IsValidData}
+use Rattle.wasm_spec_rules.specs.LinkRules.{IsValidImport, exported, IsValidExport, HasDistinctNames, effective_size, IsValidStart, referenced}
+use Rattle.wasm_spec_rules.specs.SegmentRules.{GoesToTable, IsValidElement, IsValidData}
+use Rattle.wasm_spec_rules.specs.Contexts.{context_over}
 use Rattle.wasm_spec_rules.specs.Limits.{KeepsLimits}
 use Rattle.wasm_spec_rules.specs.Modules.{IsWellFormed}
 
@@ -126,6 +127,19 @@ MemoryIsExported = IsValidExport first_version one_memory (export_of 2 0)
 abbrev pub NoSecondMemory : Type 0
 NoSecondMemory = (F : Features) → IsValidExport F one_memory (export_of 2 1) → ⊥
 
+-- index spaces of one item of each kind
+abbrev pub counting_global : Global ℕ
+counting_global = record { content = i64; mutable = true; shared = false }
+
+abbrev pub one_of_each : IndexSpaces
+one_of_each = record { types = []; functions = 3 ∷ []; tables = table_of 1 None ∷ []; memories = memory_of 1 ∷ []; globals = counting_global ∷ []; tags = 5 ∷ [] }
+
+-- the kinds of exports: functions, tables, memories, globals and tags; there is no other
+abbrev pub EachKindIsExported : Type 0
+EachKindIsExported =
+    map (λ (kind : ℕ). exported one_of_each (export_of kind 0)) (0 ∷ 1 ∷ 2 ∷ 3 ∷ 4 ∷ 5 ∷ [])
+    ≡ Some (func_extern 3) ∷ Some (table_extern (table_of 1 None)) ∷ Some (memory_extern (memory_of 1)) ∷ Some (global_extern counting_global) ∷ Some (tag_extern 5) ∷ None ∷ []
+
 abbrev pub NoNameTwice : Type 0
 NoNameTwice = HasDistinctNames (export_of 2 0 ∷ export_of 2 0 ∷ []) → ⊥
 
@@ -146,6 +160,22 @@ NoStartWithParameter =
 -- breaks `mode`: passive segments need bulk memory
 abbrev pub NoPassiveElements : Type 0
 NoPassiveElements = (C : IndexSpaces) → IsValidElement first_version C (record { mode = passive; items = functions [] }) → ⊥
+
+-- breaks `mode`: so do segments that only declare functions
+abbrev pub NoDeclaredElements : Type 0
+NoDeclaredElements = (C : IndexSpaces) → IsValidElement first_version C (record { mode = declarative; items = functions [] }) → ⊥
+
+-- index spaces of one table alone
+abbrev pub one_table : Table ℕ → IndexSpaces
+one_table t = record { types = []; functions = []; tables = t ∷ []; memories = []; globals = []; tags = [] }
+
+-- functions go to a table whose entries may be null
+abbrev pub FunctionsGoToTable : Type 0
+FunctionsGoToTable = GoesToTable (one_table (table_of 1 None)) 0 ref_func
+
+-- breaks `matches`: what may be null doesn't go to a table whose entries are never null
+abbrev pub NoNullGoesToTable : Type 0
+NoNullGoesToTable = GoesToTable (one_table (record { element = ref_func; is_64 = false; minimum = 1; maximum = None; shared = false })) 0 funcref → ⊥
 
 -- breaks `items`: a type that is written needs reference types, also `funcref`, which only a table may always have
 abbrev pub NoWrittenElements : Type 0
@@ -172,6 +202,27 @@ data_behind_seven = record {
 -- where an expression names the functions that its bytes are
 abbrev pub OffsetsReference : Type 0
 OffsetsReference = referenced (λ e. e) data_behind_seven ≡ 7 ∷ []
+
+-- with a table whose entries begin with the expression 6, a global with 5, and a segment with the offset 4 and the items 3 and 2
+abbrev pub expressions_everywhere : Parts
+expressions_everywhere = record data_behind_seven {
+  tables = record { ty = table_of 1 None; init = Some (6 ∷ []) } ∷ [];
+  globals = record { ty = counting_global; init = 5 ∷ [] } ∷ [];
+  elements = record { mode = active None (4 ∷ []); items = expressions funcref ((3 ∷ []) ∷ (2 ∷ []) ∷ []) } ∷ [];
+}
+
+abbrev pub AllExpressionsReference : Type 0
+AllExpressionsReference = referenced (λ e. e) expressions_everywhere ≡ 6 ∷ 5 ∷ 4 ∷ 3 ∷ 2 ∷ 7 ∷ []
+
+-- an import of a function of a type or of one below it, one of a function of exactly a type, and a function that is defined
+abbrev pub functions_of_each_kind : Parts
+functions_of_each_kind = record data_behind_seven {
+  imports = record { module_name = []; item_name = []; ty = func_extern 0 } ∷ record { module_name = []; item_name = []; ty = func_exact_extern 0 } ∷ [];
+  functions = 0 ∷ [];
+}
+
+abbrev pub OwnFunctionsAreExact : Type 0
+OwnFunctionsAreExact = (C : IndexSpaces) → (context_over (λ (d : DefType). d) [] (λ e. e) C functions_of_each_kind).exact ≡ false ∷ true ∷ true ∷ []
 
 abbrev pub NoPassiveData : Type 0
 NoPassiveData = (C : IndexSpaces) → IsValidData first_version C (record { mode = passive; bytes = [] }) → ⊥

@@ -2,10 +2,10 @@
 //! Specification 3.0, chapter Validation. Contracts of the validator cite them.
 #![tactic(auto)]
 
-ghost use Rattle.wasm_spec_rules.specs.Contexts.{ContextsAreRenamed, RepeatedTypeIsOne};
+ghost use Rattle.wasm_spec_rules.specs.Contexts.{ContextsAreRenamed, RepeatedTypeIsOne, TypeOfOthersIsNone};
 ghost use Rattle.wasm_spec_rules.specs.LimitLaws.{LimitsAreOptIn};
 ghost use Rattle.wasm_spec_rules.specs.Totals.{TotalsGoOn};
-ghost use Rattle.wasm_spec_rules.specs.ModuleExamples.{TableOfOneOrTwo, NoTableOfTwoToOne, NoTableWithoutEntries, MemoryOfAllAddresses, NoMemoryPastAllAddresses, MemoryOfSmallPages, NoMemoryPastSmallPages, NoMemoryOfLargerPages, NoSharedGlobal, NoTagWithoutExceptions, NoMutableImport, MemoryIsExported, NoSecondMemory, NoNameTwice, SizeIsThree, NoStartWithParameter, NoPassiveElements, NoWrittenElements, OffsetsReference, NoPassiveData, NoTwoMemories, HeaderIsModule, NoVersionTwo, EntryOfOneTypeIsTwo, EntryWithTypesIsTwo, NoEntryIsTwo};
+ghost use Rattle.wasm_spec_rules.specs.ModuleExamples.{TableOfOneOrTwo, NoTableOfTwoToOne, NoTableWithoutEntries, MemoryOfAllAddresses, NoMemoryPastAllAddresses, MemoryOfSmallPages, NoMemoryPastSmallPages, NoMemoryOfLargerPages, NoSharedGlobal, NoTagWithoutExceptions, NoMutableImport, MemoryIsExported, NoSecondMemory, NoNameTwice, SizeIsThree, NoStartWithParameter, NoPassiveElements, NoWrittenElements, OffsetsReference, NoPassiveData, NoTwoMemories, HeaderIsModule, NoVersionTwo, EntryOfOneTypeIsTwo, EntryWithTypesIsTwo, NoEntryIsTwo, EachKindIsExported, NoDeclaredElements, FunctionsGoToTable, NoNullGoesToTable, AllExpressionsReference, OwnFunctionsAreExact};
 ghost use Rattle.wasm_spec_rules.specs.Bodies.{BodiesAreAsManyAsFunctions};
 
 /// Worked examples of the rules of modules.
@@ -37,6 +37,12 @@ pub fn module_examples()
     ensures one_type { EntryOfOneTypeIsTwo }
     ensures with_types { EntryWithTypesIsTwo }
     ensures no_compact { NoEntryIsTwo }
+    ensures kinds { EachKindIsExported }
+    ensures no_declared { NoDeclaredElements }
+    ensures to_table { FunctionsGoToTable }
+    ensures no_null_to_table { NoNullGoesToTable }
+    ensures all_expressions { AllExpressionsReference }
+    ensures exact { OwnFunctionsAreExact }
 {}
 
 /// Without `crate_limits` every composite type and every name keeps the limits that it asks for; with
@@ -53,9 +59,10 @@ pub fn contexts_are_renamed<R, S>()
     ensures renamed { ContextsAreRenamed R S }
 {}
 
-/// A type that a module has twice is numbered once.
+/// A type that a module has twice is numbered once, and one that it doesn't have isn't numbered.
 pub fn repeated_types_are_numbered_once()
     ensures once { RepeatedTypeIsOne }
+    ensures none { TypeOfOthersIsNone }
 {}
 
 /// The types of a run of modules behind another are added to those of that one.
