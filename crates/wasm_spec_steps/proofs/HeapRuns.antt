@@ -1,6 +1,6 @@
 -- The bodies of memory, table, reference and aggregate instructions, run.
 use Rattle.std.proofs.Common.{refl}
-use Rattle.wasm_spec_steps.specs.HeapExamples.{Memories, NoMemories, Tables, NoTables, References, NoReferences, Casts, NoCasts, Conversions, NoConversions, Structures, NoStructures, Arrays, NoArrays, Descriptors, NoDescriptors, Continuations, NoContinuations, MemoriesNeedFeatures, ReferencesNeedFeatures, AggregatesNeedFeatures}
+use Rattle.wasm_spec_steps.specs.HeapExamples.{Memories, NoMemories, Tables, NoTables, References, NoReferences, Casts, NoCasts, Conversions, NoConversions, Structures, NoStructures, Arrays, NoArrays, Copies, NoCopies, Descriptors, NoDescriptors, Continuations, NoContinuations, MemoriesNeedFeatures, ReferencesNeedFeatures, AggregatesNeedFeatures}
 
 pub memories : Memories
 memories = refl
@@ -44,6 +44,12 @@ arrays = refl
 pub no_arrays : NoArrays
 no_arrays = refl
 
+pub copies : Copies
+copies = refl
+
+pub no_copies : NoCopies
+no_copies = refl
+
 pub descriptors : Descriptors
 descriptors = refl
 
@@ -65,4 +71,4 @@ references_need_features = refl
 pub aggregates_need_features : AggregatesNeedFeatures
 aggregates_need_features = refl
 
-pub ruleset heap_runs = (memories, no_memories, tables, no_tables, references, no_references, casts, no_casts, conversions, no_conversions, structures, no_structures, arrays, no_arrays, descriptors, no_descriptors, continuations, no_continuations, memories_need_features, references_need_features, aggregates_need_features)
+pub ruleset heap_runs = (memories, no_memories, tables, no_tables, references, no_references, casts, no_casts, conversions, no_conversions, structures, no_structures, arrays, no_arrays, copies, no_copies, descriptors, no_descriptors, continuations, no_continuations, memories_need_features, references_need_features, aggregates_need_features)

@@ -17,3 +17,4 @@ pub mod ConstantReferences
 pub mod WorldsDecided
 pub mod OperandSequences
 pub mod EqualTypesMatch
+pub mod BodyRuns

@@ -1,6 +1,6 @@
--- The bodies of shared functions, run.
+-- The bodies of shared functions and of atomic accesses, run.
 use Rattle.std.proofs.Common.{refl}
-use Rattle.wasm_spec_steps.specs.SharedExamples.{ReachesGlobalsAndTables, ReachesFunctions, ReachesStructures, ReachesArrays, ReachesTheRest}
+use Rattle.wasm_spec_steps.specs.SharedExamples.{ReachesGlobalsAndTables, ReachesFunctions, ReachesStructures, ReachesArrays, ReachesTheRest, AtomicAccesses, NoAtomicAccesses}
 
 pub reaches_globals_and_tables : ReachesGlobalsAndTables
 reaches_globals_and_tables = refl
@@ -17,4 +17,10 @@ reaches_arrays = refl
 pub reaches_the_rest : ReachesTheRest
 reaches_the_rest = refl
 
-pub ruleset shared_runs = (reaches_globals_and_tables, reaches_functions, reaches_structures, reaches_arrays, reaches_the_rest)
+pub atomic_accesses : AtomicAccesses
+atomic_accesses = refl
+
+pub no_atomic_accesses : NoAtomicAccesses
+no_atomic_accesses = refl
+
+pub ruleset shared_runs = (reaches_globals_and_tables, reaches_functions, reaches_structures, reaches_arrays, reaches_the_rest, atomic_accesses, no_atomic_accesses)

@@ -1,9 +1,9 @@
 -- Bodies that are valid and bodies that aren't: control, parametric and variable instructions, and constant expressions. In each pair
 -- of statements, what the first accepts and what the second refuses differ in one place.
-use Rattle.std.specs.Prelude.{ℕ, ◌≡◌, true, false, [], ◌∷◌}
+use Rattle.std.specs.Prelude.{ℕ, ◌≡◌, true, false, nat_eq, [], ◌∷◌}
 use Rattle.wasm_spec_rules.specs.WasmSpec.Syntax.{func_heap, exn_heap, extern_heap, concrete, i32, i64, f32}
 use Rattle.wasm_spec_rules.specs.WasmSpec.TypeExamples.{features}
-use Rattle.wasm_operators.specs.WasmOperatorsPlain.declared.numeric.NumericOperator.TheVariants.{I32Add, I64Add, F32Add, I64Eqz}
+use Rattle.wasm_operators.specs.WasmOperatorsPlain.declared.numeric.NumericOperator.TheVariants.{I32Add, I32Sub, I32Mul, I32And, I64Add, I64Sub, I64Mul, I64And, F32Add, I64Eqz}
 use Rattle.wasm_operators.specs.Control.{empty_block, value_block, func_block, nop, else_, throw_ref, return_, loop, if_, try_table, throw, br, br_if, br_table, select, select_of}
 use Rattle.wasm_operators.specs.References as references
 use Rattle.wasm_operators.specs.Instructions.{Instruction, control, call, parametric, variable, numeric, reference, conversion, structure, array}
@@ -14,7 +14,8 @@ use Rattle.wasm_spec_steps.specs.ConstantExpressions.{is_constant}
 use Rattle.wasm_operators.specs.declared.control.Catch.TheVariants as catch
 use Rattle.wasm_operators.specs.WasmOperatorsPlain.declared.calls.CallOperator.TheVariants.{Call, CallIndirect, ReturnCall, ReturnCallIndirect, CallRef, ReturnCallRef}
 use Rattle.wasm_operators.specs.WasmOperatorsPlain.declared.variables.VariableOperator.TheVariants.{LocalGet, LocalSet, LocalTee, GlobalGet, GlobalSet}
-use Rattle.wasm_spec_steps.specs.Samples.{ref, ref_null, plain_heap, body, runs, gives_i32, constant_of, an_i32, an_i64, an_f32, dropped, trap, an_end, in_block, all_pass, none_pass}
+use Rattle.wasm_spec_steps.specs.Steps.{is_typed_body}
+use Rattle.wasm_spec_steps.specs.Samples.{sample, without_descriptors, ref, ref_null, plain_heap, body, runs, gives_i32, constant_of, an_i32, an_i64, an_f32, dropped, trap, an_end, in_block, all_pass, none_pass}
 
 abbrev pub null : Instruction ℕ
 null = reference (references.ref_null (plain_heap func_heap))
@@ -45,6 +46,7 @@ NoBlocks =
     gives_i32 (an_i64 ∷ []) ∷
     runs (an_end ∷ []) ∷
     runs (an_end ∷ control nop ∷ []) ∷
+    is_typed_body nat_eq (sample without_descriptors) 0 (an_end ∷ control nop ∷ []) ∷
     runs (in_block empty_block ∷ []) ∷
     gives_i32 (an_i32 ∷ in_block (value_block i32) ∷ an_end ∷ []) ∷
     gives_i32 (an_i64 ∷ an_i32 ∷ in_block (func_block 2) ∷ dropped ∷ an_end ∷ []) ∷
@@ -221,6 +223,11 @@ ConstantInstructions =
     is_constant (features false) (variable (GlobalGet 0)) ∷
     is_constant (features false) an_end ∷
     is_constant (features true) (numeric I32Add) ∷
+    is_constant (features true) (numeric I32Sub) ∷
+    is_constant (features true) (numeric I32Mul) ∷
+    is_constant (features true) (numeric I64Add) ∷
+    is_constant (features true) (numeric I64Sub) ∷
+    is_constant (features true) (numeric I64Mul) ∷
     is_constant (features true) (structure (StructNewDefault 5)) ∷
     is_constant (features true) (array (ArrayNewFixed 7 1)) ∷
     is_constant (features true) (conversion RefI31) ∷
@@ -234,6 +241,8 @@ NoConstantInstructions =
     is_constant (features true) (call (Call 0)) ∷
     is_constant (features true) (variable (LocalGet 0)) ∷
     is_constant (features true) (numeric I64Eqz) ∷
+    is_constant (features true) (numeric I32And) ∷
+    is_constant (features true) (numeric I64And) ∷
     is_constant (features true) (structure (StructGet 5 0)) ∷
     is_constant (features true) (array ArrayLen) ∷
     is_constant (features true) (conversion I31GetS) ∷

@@ -3,11 +3,11 @@ use Rattle.std.specs.Prelude.{ℕ, ◌≡◌, ◌+◌, ◌^◌, true, false, [],
 use Rattle.wasm_spec_rules.specs.WasmSpec.TypeExamples.{features}
 use Rattle.wasm_operators.specs.Instructions.{Instruction, constant, vector, atomic}
 use Rattle.wasm_operators.specs.WasmOperatorsPlain.declared.constants.ConstantOperator.TheVariants.{V128Const}
-use Rattle.wasm_operators.specs.WasmOperatorsAtomic.WasmOperatorsVector.declared.operators.VectorOperator.TheVariants.{V128Load, V128Store, V128Load8Lane, I8x16Shuffle, I8x16Splat, I8x16ExtractLaneS, I8x16Add, F32x4RelaxedMadd}
+use Rattle.wasm_operators.specs.WasmOperatorsAtomic.WasmOperatorsVector.declared.operators.VectorOperator.TheVariants.{V128Load, V128Store, V128Load8Lane, I8x16Shuffle, I8x16Splat, F32x4Splat, F64x2Splat, I8x16ExtractLaneS, I8x16Add, F32x4RelaxedMadd}
 use Rattle.wasm_operators.specs.WasmOperatorsAtomic.declared.operators.AtomicOperator.TheVariants.{AtomicFence, I32AtomicLoad, MemoryAtomicNotify}
 use Rattle.wasm_operators.specs.declared.immediates.ImmediateValues.{ImmediateValues}
 use Rattle.wasm_operators.specs.declared.immediates.ImmediateValues.TheVariants.{Nothing, Lane, Lanes, MemArg, MemArgLane}
-use Rattle.wasm_spec_steps.specs.Samples.{body, runs, gives_i32, an_i32, an_i64, dropped, trap, all_pass, none_pass}
+use Rattle.wasm_spec_steps.specs.Samples.{body, runs, gives_i32, an_i32, an_i64, an_f32, dropped, trap, all_pass, none_pass}
 
 abbrev pub a_v128 : Instruction ℕ
 a_v128 = constant (V128Const (record { low = 0; high = 0 }))
@@ -25,6 +25,7 @@ Vectors =
     all_pass (
     gives_i32 (a_v128 ∷ vector I8x16ExtractLaneS (Lane 15) ∷ []) ∷
     runs (an_i32 ∷ vector I8x16Splat Nothing ∷ dropped ∷ []) ∷
+    runs (an_f32 ∷ vector F32x4Splat Nothing ∷ dropped ∷ []) ∷
     runs (a_v128 ∷ a_v128 ∷ vector I8x16Add Nothing ∷ dropped ∷ []) ∷
     runs (a_v128 ∷ a_v128 ∷ a_v128 ∷ vector F32x4RelaxedMadd Nothing ∷ dropped ∷ []) ∷
     runs (a_v128 ∷ a_v128 ∷ vector I8x16Shuffle (lanes 31) ∷ dropped ∷ []) ∷
@@ -38,6 +39,7 @@ NoVectors =
     none_pass (
     gives_i32 (a_v128 ∷ vector I8x16ExtractLaneS (Lane 16) ∷ []) ∷
     runs (an_i64 ∷ vector I8x16Splat Nothing ∷ dropped ∷ []) ∷
+    runs (an_f32 ∷ vector F64x2Splat Nothing ∷ dropped ∷ []) ∷
     runs (a_v128 ∷ an_i32 ∷ vector I8x16Add Nothing ∷ dropped ∷ []) ∷
     runs (a_v128 ∷ a_v128 ∷ vector F32x4RelaxedMadd Nothing ∷ dropped ∷ []) ∷
     runs (a_v128 ∷ a_v128 ∷ vector I8x16Shuffle (lanes 32) ∷ dropped ∷ []) ∷

@@ -1,7 +1,8 @@
 -- Bodies that are valid and bodies that aren't: memory, table, reference and aggregate instructions, casts and conversions. In each pair of
 -- statements, what the first accepts and what the second refuses differ in one place.
-use Rattle.std.specs.Prelude.{ℕ, ◌≡◌, ◌^◌, ◌-◌, true, false, not, ◌&&◌, Bool, List, [], ◌∷◌, ◌++◌}
-use Rattle.wasm_spec_rules.specs.WasmSpec.Syntax.{any_heap, eq_heap, i31_heap, none_heap, func_heap, nofunc_heap, extern_heap, exn_heap, cont_heap, nocont_heap, Heap, abstract_heap, concrete, exact, i32}
+use Rattle.std.specs.Prelude.{ℕ, ◌≡◌, ◌^◌, ◌-◌, true, false, not, ◌&&◌, Bool, nat_eq, List, [], ◌∷◌, ◌++◌}
+use Rattle.wasm_spec_rules.specs.WasmSpec.Syntax.{any_heap, eq_heap, i31_heap, none_heap, func_heap, nofunc_heap, extern_heap, exn_heap, cont_heap, nocont_heap, Heap, abstract_heap, concrete, exact, i32, unpacked}
+use Rattle.wasm_spec_rules.specs.WasmSpec.Syntax as syntax
 use Rattle.wasm_spec_rules.specs.WasmSpec.Features.{Features}
 use Rattle.wasm_spec_rules.specs.WasmSpec.TypeExamples.{features}
 use Rattle.wasm_operators.specs.Control.{empty_block, value_block}
@@ -19,7 +20,9 @@ use Rattle.wasm_operators.specs.WasmOperatorsPlain.declared.constants.ConstantOp
 use Rattle.wasm_operators.specs.WasmOperatorsPlain.declared.conversions.ConversionOperator.TheVariants.{AnyConvertExtern, ExternConvertAny, RefI31, I31GetS, I31GetU, RefI31Shared}
 use Rattle.wasm_operators.specs.WasmOperatorsPlain.declared.structs.StructOperator.TheVariants.{StructNew, StructNewDefault, StructGet, StructGetS, StructGetU, StructSet, StructNewDesc, StructNewDefaultDesc}
 use Rattle.wasm_operators.specs.WasmOperatorsPlain.declared.arrays.ArrayOperator.TheVariants.{ArrayNew, ArrayNewDefault, ArrayNewFixed, ArrayNewData, ArrayNewElem, ArrayGet, ArrayGetS, ArrayGetU, ArraySet, ArrayLen, ArrayFill, ArrayCopy, ArrayInitData, ArrayInitElem}
-use Rattle.wasm_spec_steps.specs.Samples.{ref, ref_null, ref_of, plain_heap, body, runs, gives_i32, an_i32, an_i64, dropped, trap, an_end, in_block, all_pass, none_pass}
+use Rattle.wasm_spec_steps.specs.Bodies.{Surroundings}
+use Rattle.wasm_spec_steps.specs.Steps.{is_typed_body}
+use Rattle.wasm_spec_steps.specs.Samples.{field_of, final, declares, table_of, context, sample, ref, ref_null, ref_of, plain_heap, body, runs, gives_i32, an_i32, an_i64, dropped, trap, an_end, in_block, all_pass, none_pass}
 
 -- with every feature, descriptors too
 abbrev pub described : List (Instruction ℕ) → Bool
@@ -235,6 +238,38 @@ NoArrays =
     runs (null (concrete 9) ∷ an_i32 ∷ null (concrete 9) ∷ an_i32 ∷ an_i32 ∷ array (ArrayCopy 9 9) ∷ []) ∷
     runs (null (concrete 8) ∷ an_i32 ∷ an_i32 ∷ an_i32 ∷ array (ArrayInitData 8 0) ∷ []) ∷
     runs (null (concrete 8) ∷ an_i32 ∷ an_i32 ∷ an_i32 ∷ array (ArrayInitElem 8 0) ∷ []) ∷
+    []) ≡ true
+
+-- With a type of arrays of mutable references to the lesser structure, 14, and a table of functions with addresses of 64 bits, 2.
+abbrev pub with_others : Surroundings ℕ
+with_others = record (sample (features true)) {
+  context = record context {
+    types = context.types ++ (24 ∷ []);
+    declares = declares ++ ((24, final (syntax.array (field_of true (unpacked (ref_null (concrete 16)))))) ∷ []);
+    tables = context.tables ++ (table_of true (ref_of true (plain_heap func_heap)) ∷ []);
+  };
+}
+
+abbrev pub copies : List (Instruction ℕ) → Bool
+copies ops = is_typed_body nat_eq with_others 0 (ops ++ (an_end ∷ []))
+
+-- what is copied matches what is there, and between addresses of both sizes the length is of 32 bits
+abbrev pub Copies : Type 0
+Copies =
+    all_pass (
+    copies (null (concrete 8) ∷ an_i32 ∷ null (concrete 14) ∷ an_i32 ∷ an_i32 ∷ array (ArrayCopy 8 14) ∷ []) ∷
+    copies (an_i64 ∷ an_i64 ∷ an_i64 ∷ table (TableCopy 2 2) ∷ []) ∷
+    copies (an_i64 ∷ an_i32 ∷ an_i32 ∷ table (TableCopy 2 0) ∷ []) ∷
+    copies (an_i32 ∷ an_i64 ∷ an_i32 ∷ table (TableCopy 0 2) ∷ []) ∷
+    []) ≡ true
+
+abbrev pub NoCopies : Type 0
+NoCopies =
+    none_pass (
+    copies (null (concrete 14) ∷ an_i32 ∷ null (concrete 8) ∷ an_i32 ∷ an_i32 ∷ array (ArrayCopy 14 8) ∷ []) ∷
+    copies (an_i64 ∷ an_i64 ∷ an_i32 ∷ table (TableCopy 2 2) ∷ []) ∷
+    copies (an_i64 ∷ an_i32 ∷ an_i64 ∷ table (TableCopy 2 0) ∷ []) ∷
+    copies (an_i32 ∷ an_i64 ∷ an_i64 ∷ table (TableCopy 0 2) ∷ []) ∷
     []) ≡ true
 
 -- type 11 has the descriptor 12

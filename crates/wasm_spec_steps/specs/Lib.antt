@@ -27,3 +27,4 @@ pub mod HeapExamples
 pub mod SharedExamples
 pub mod LegacyExamples
 pub mod FormExamples
+pub mod BodyExamples

@@ -1,4 +1,4 @@
--- Bodies of shared functions, which reach only what is shared. Proposal for shared-everything threads.
+-- Bodies of shared functions, which reach only what is shared, and atomic accesses to it. Proposal for shared-everything threads.
 use Rattle.std.specs.Prelude.{ℕ, ◌≡◌, true, false, not, ◌&&◌, Bool, nat_eq, List, [], ◌∷◌, ◌++◌, if◌then◌else◌, Some, None}
 use Rattle.wasm_spec_rules.specs.WasmSpec.Syntax.{func_heap, abstract_heap, concrete, Ref, i32, i8, unpacked, Comp, func, struct, Sub}
 use Rattle.wasm_spec_rules.specs.WasmSpec.Syntax as syntax
@@ -7,7 +7,7 @@ use Rattle.wasm_spec_rules.specs.Contexts.{Context}
 use Rattle.wasm_operators.specs.Control.{value_block, func_block, loop, if_, try_table, throw}
 use Rattle.wasm_operators.specs.References.{ref_func, ref_test, ref_cast}
 use Rattle.wasm_operators.specs.References as references
-use Rattle.wasm_operators.specs.Instructions.{Instruction, control, call, variable, table, access, memory, reference, cast, conversion, structure, array}
+use Rattle.wasm_operators.specs.Instructions.{Instruction, control, call, variable, table, access, memory, reference, cast, conversion, structure, array, shared}
 use Rattle.wasm_operators.specs.WasmOperatorsPlain.declared.calls.CallOperator.TheVariants.{Call, CallIndirect, ReturnCall, ReturnCallIndirect, CallRef, ReturnCallRef}
 use Rattle.wasm_operators.specs.WasmOperatorsPlain.declared.variables.VariableOperator.TheVariants.{LocalGet, GlobalGet, GlobalSet}
 use Rattle.wasm_operators.specs.WasmOperatorsPlain.declared.tables.TableOperator.TheVariants.{TableGet, TableSet, TableInit, ElemDrop, TableCopy, TableGrow, TableSize, TableFill}
@@ -16,8 +16,11 @@ use Rattle.wasm_operators.specs.WasmOperatorsPlain.declared.memories.BulkMemoryO
 use Rattle.wasm_operators.specs.WasmOperatorsPlain.declared.conversions.ConversionOperator.TheVariants.{RefI31}
 use Rattle.wasm_operators.specs.WasmOperatorsPlain.declared.structs.StructOperator.TheVariants.{StructNew, StructNewDefault, StructGet, StructGetS, StructGetU, StructSet, StructNewDesc, StructNewDefaultDesc}
 use Rattle.wasm_operators.specs.WasmOperatorsPlain.declared.arrays.ArrayOperator.TheVariants.{ArrayNew, ArrayNewDefault, ArrayNewFixed, ArrayNewData, ArrayNewElem, ArrayGet, ArrayGetS, ArrayGetU, ArraySet, ArrayLen, ArrayFill, ArrayCopy, ArrayInitData, ArrayInitElem}
+use Rattle.wasm_operators.specs.WasmOperatorsAtomic.declared.shared.SharedAtomicOperator.{SharedAtomicOperator}
+use Rattle.wasm_operators.specs.WasmOperatorsAtomic.declared.shared.SharedAtomicOperator.TheVariants.{GlobalAtomicGet, GlobalAtomicSet, StructAtomicGet, StructAtomicGetU, StructAtomicSet, ArrayAtomicGet, ArrayAtomicGetS, ArrayAtomicSet}
+use Rattle.wasm_operators.specs.WasmOperatorsProposals.declared.accesses.Ordering.TheVariants.{SeqCst}
 use Rattle.wasm_spec_steps.specs.Steps.{is_typed_body}
-use Rattle.wasm_spec_steps.specs.Samples.{ref_null, ref_of, field_of, declares, table_of, global_of, context, locals, an_i32, dropped, trap, an_end, in_block, all_pass}
+use Rattle.wasm_spec_steps.specs.Samples.{ref_null, ref_of, field_of, declares, table_of, global_of, context, locals, an_i32, dropped, trap, an_end, in_block, all_pass, none_pass}
 
 abbrev pub shared_type : Comp ℕ → Sub ℕ
 shared_type c = record { is_final = true; supers = []; shared = true; comp = c; descriptor = None; describes = None }
@@ -142,4 +145,33 @@ ReachesTheRest =
     inside true (trap ∷ cast (ref_cast (ref_of true (concrete 5))) ∷ dropped ∷ []) ∷
     inside true (an_i32 ∷ conversion RefI31 ∷ dropped ∷ []) ∷
     inside true (trap ∷ array ArrayLen ∷ dropped ∷ []) ∷
+    []) ≡ true
+
+-- an atomic access to what has this index, and to this field of it
+abbrev pub accessing : SharedAtomicOperator → ℕ → ℕ → Instruction ℕ
+accessing op x k = shared op (record { ordering = SeqCst; index = x; field_index = k })
+
+abbrev pub null_of : ℕ → Instruction ℕ
+null_of x = reference (references.ref_null (concrete x))
+
+-- what is stored is a number or a reference to what is shared, and what is packed is read with its sign or without
+abbrev pub AtomicAccesses : Type 0
+AtomicAccesses =
+    all_pass (
+    inside true (accessing GlobalAtomicGet 2 0 ∷ accessing GlobalAtomicSet 2 0 ∷ []) ∷
+    inside true (null_of 15 ∷ null_of 15 ∷ accessing StructAtomicGet 15 0 ∷ accessing StructAtomicSet 15 0 ∷ []) ∷
+    inside true (null_of 15 ∷ accessing StructAtomicGetU 15 1 ∷ dropped ∷ []) ∷
+    inside true (null_of 17 ∷ an_i32 ∷ null_of 15 ∷ accessing ArrayAtomicSet 17 0 ∷ []) ∷
+    inside true (null_of 18 ∷ an_i32 ∷ accessing ArrayAtomicGetS 18 0 ∷ dropped ∷ []) ∷
+    []) ≡ true
+
+abbrev pub NoAtomicAccesses : Type 0
+NoAtomicAccesses =
+    none_pass (
+    inside false (accessing GlobalAtomicGet 1 0 ∷ accessing GlobalAtomicSet 1 0 ∷ []) ∷
+    inside true (null_of 15 ∷ accessing StructAtomicGetU 15 0 ∷ dropped ∷ []) ∷
+    inside true (null_of 15 ∷ accessing StructAtomicGet 15 1 ∷ dropped ∷ []) ∷
+    inside false (null_of 8 ∷ an_i32 ∷ null_of 5 ∷ accessing ArrayAtomicSet 8 0 ∷ []) ∷
+    inside true (null_of 18 ∷ an_i32 ∷ an_i32 ∷ accessing ArrayAtomicSet 18 0 ∷ []) ∷
+    inside true (null_of 18 ∷ an_i32 ∷ accessing ArrayAtomicGet 18 0 ∷ dropped ∷ []) ∷
     []) ≡ true

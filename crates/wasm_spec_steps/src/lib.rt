@@ -8,9 +8,10 @@ ghost use Rattle.wasm_spec_steps.specs.ServedInstructions.{UnservedTakeNone};
 ghost use Rattle.wasm_spec_steps.specs.LegacyExamples.{Tries, NoTries, TriesNeedFeatures};
 ghost use Rattle.wasm_spec_steps.specs.StackLaws.{ListsAreTakenInTurn, TakingKeepsFrames, TypesAreTakenInTurn, UnreachedCodeTakesAnything, EqualTypesMatch, EqualTypesMatchInContexts, ActionsAreRunInTurn};
 ghost use Rattle.wasm_spec_steps.specs.ControlExamples.{Blocks, NoBlocks, Branches, NoBranches, Calls, NoCalls, Exceptions, NoExceptions, Parametrics, NoParametrics, Variables, NoVariables, ControlNeedsFeatures, Constants, NoConstants, ConstantInstructions, NoConstantInstructions};
-ghost use Rattle.wasm_spec_steps.specs.HeapExamples.{Memories, NoMemories, Tables, NoTables, References, NoReferences, Casts, NoCasts, Conversions, NoConversions, Structures, NoStructures, Arrays, NoArrays, Descriptors, NoDescriptors, Continuations, NoContinuations, MemoriesNeedFeatures, ReferencesNeedFeatures, AggregatesNeedFeatures};
+ghost use Rattle.wasm_spec_steps.specs.HeapExamples.{Memories, NoMemories, Tables, NoTables, References, NoReferences, Casts, NoCasts, Conversions, NoConversions, Structures, NoStructures, Arrays, NoArrays, Copies, NoCopies, Descriptors, NoDescriptors, Continuations, NoContinuations, MemoriesNeedFeatures, ReferencesNeedFeatures, AggregatesNeedFeatures};
 ghost use Rattle.wasm_spec_steps.specs.FormExamples.{Vectors, NoVectors, Atomics, NoAtomics, FormsNeedFeatures};
-ghost use Rattle.wasm_spec_steps.specs.SharedExamples.{ReachesGlobalsAndTables, ReachesFunctions, ReachesStructures, ReachesArrays, ReachesTheRest};
+ghost use Rattle.wasm_spec_steps.specs.SharedExamples.{ReachesGlobalsAndTables, ReachesFunctions, ReachesStructures, ReachesArrays, ReachesTheRest, AtomicAccesses, NoAtomicAccesses};
+ghost use Rattle.wasm_spec_steps.specs.BodyExamples.{ParametersAreLocals};
 
 // What the definitions here speak of, for the crates that stand on them.
 pub use wasm_operators::operators_atomic::{
@@ -87,6 +88,8 @@ pub fn heap_examples()
     ensures no_structures { NoStructures }
     ensures arrays { Arrays }
     ensures no_arrays { NoArrays }
+    ensures copies { Copies }
+    ensures no_copies { NoCopies }
     ensures descriptors { Descriptors }
     ensures no_descriptors { NoDescriptors }
     ensures continuations { Continuations }
@@ -106,7 +109,8 @@ pub fn form_examples()
     ensures forms_need_features { FormsNeedFeatures }
 {}
 
-/// Bodies of shared functions, which reach only what is shared, and of functions that are not.
+/// Bodies of shared functions, which reach only what is shared, and of functions that are not; and
+/// atomic accesses to what is shared.
 #[tactic(auto, using(crate::proofs::SharedRuns::shared_runs))]
 pub fn shared_examples()
     ensures globals_and_tables { ReachesGlobalsAndTables }
@@ -114,6 +118,13 @@ pub fn shared_examples()
     ensures structures { ReachesStructures }
     ensures arrays { ReachesArrays }
     ensures the_rest { ReachesTheRest }
+    ensures accesses { AtomicAccesses }
+    ensures no_accesses { NoAtomicAccesses }
+{}
+
+/// A body, byte by byte: the parameters of its function are its first locals.
+pub fn body_example()
+    ensures parameters { ParametersAreLocals }
 {}
 
 /// Bodies with operators of legacy exceptions: valid ones, and ones that are not.
