@@ -15,7 +15,7 @@ use Rattle.wasm_readers_errors.specs.WasmSpec.Closing.{resolve}
 use Rattle.wasm_readers_errors.specs.WasmSpec.GroupRules.{IsValidType}
 use Rattle.wasm_readers_errors.specs.WasmSpec.Matching.{itself}
 use Rattle.wasm_readers_errors.proofs.WasmSpec.ReferenceNumbers.{members-close}
-use Rattle.wasm_readers_errors.specs.WasmSpec.Framing.{Piece, Version, End, u16_at}
+use Rattle.wasm_readers_errors.specs.WasmSpec.Framing.{Piece, Version, Counted, DataCount, End, u16_at}
 use Rattle.wasm_spec_rules.specs.Parts.{Parts, Expression}
 use Rattle.wasm_spec_rules.specs.IndexSpaces.{IndexSpaces, IsFunctionType, signature, signature_at}
 use Rattle.wasm_spec_rules.specs.ItemRules.{IsValidTableEntry, IsValidMemory, IsValidTag, IsValidGlobal}
@@ -23,8 +23,8 @@ use Rattle.wasm_spec_rules.specs.LinkRules.{IsValidImport, IsValidExport, IsVali
 use Rattle.wasm_spec_rules.specs.SegmentRules.{IsValidElement, IsValidData}
 use Rattle.wasm_spec_rules.specs.Modules.{IsAllowedPiece}
 use Rattle.wasm_readers_errors.specs.WasmSpec.Trees.{TypeUse, DefType, close, denote, declared}
-use Rattle.wasm_spec_rules.specs.ModuleExamples.{TableOfOneOrTwo, NoTableOfTwoToOne, NoTableWithoutEntries, MemoryOfAllAddresses, NoMemoryPastAllAddresses, MemoryOfSmallPages, NoMemoryPastSmallPages, NoMemoryOfLargerPages, NoSharedGlobal, NoTagWithoutExceptions, NoMutableImport, MemoryIsExported, NoSecondMemory, NoNameTwice, SizeIsThree, NoPassiveElements, NoWrittenElements, OffsetsReference, NoPassiveData, NoTwoMemories, HeaderIsModule, NoVersionTwo, NoStartWithParameter, EntryOfOneTypeIsTwo, EntryWithTypesIsTwo, NoEntryIsTwo, EachKindIsExported, NoDeclaredElements, FunctionsGoToTable, NoNullGoesToTable, AllExpressionsReference, OwnFunctionsAreExact, first_version, taking_type}
-use Rattle.wasm_spec_rules.specs.Limits.{most_segments, most_body_bytes}
+use Rattle.wasm_spec_rules.specs.ModuleExamples.{TableOfOneOrTwo, NoTableOfTwoToOne, NoTableWithoutEntries, MemoryOfAllAddresses, NoMemoryPastAllAddresses, MemoryOfSmallPages, NoMemoryPastSmallPages, NoMemoryOfLargerPages, NoSharedGlobal, NoTagWithoutExceptions, NoMutableImport, MemoryIsExported, NoSecondMemory, NoNameTwice, SizeIsThree, NoPassiveElements, NoWrittenElements, OffsetsReference, NoPassiveData, NoTwoMemories, HeaderIsModule, NoVersionTwo, NoStartWithParameter, EntryOfOneTypeIsTwo, EntryWithTypesIsTwo, NoEntryIsTwo, EachKindIsExported, NoDeclaredElements, FunctionsGoToTable, NoNullGoesToTable, AllExpressionsReference, OwnFunctionsAreExact, ImportsStandFirst, SignatureCountsAsFive, FunctionsAreReferenced, NoSharedMemoryWithoutMaximum, NoMemoryOfTwoToOne, NoMemoryToPastAllAddresses, NoMemoryOf64BitsWithoutMemory64, NoInitWithoutFunctionReferences, NoTablePast32Bits, SectionsNeedFeatures, NoMillionAndOneEntries, first_version, taking_type}
+use Rattle.wasm_spec_rules.specs.Limits.{most_imports, most_segments, most_body_bytes}
 
 pub table_of_one_or_two : TableOfOneOrTwo
 table_of_one_or_two = record {
@@ -259,4 +259,45 @@ pub no_entry_is_two : NoEntryIsTwo
 unfolding import_at extern_at
 no_entry_is_two = (rw (letter 0x6d (omega arith)) (rw nothing refl), rw (letter 0x6d (omega arith)) (rw nothing refl))
 
+pub imports_stand_first : ImportsStandFirst
+imports_stand_first = refl
+
+pub signature_counts_as_five : SignatureCountsAsFive
+signature_counts_as_five = refl
+
+pub functions_are_referenced : FunctionsAreReferenced
+functions_are_referenced = refl
+
+pub no_shared_memory_without_maximum : NoSharedMemoryWithoutMaximum
+no_shared_memory_without_maximum F v = let h : false ≡ true = v.shared_has_maximum refl in cc
+
+pub no_memory_of_two_to_one : NoMemoryOfTwoToOne
+no_memory_of_two_to_one F v = let h : 2 ≤ 1 = v.minimum_at_most_maximum in omega (arith, h)
+
+pub no_memory_to_past_all_addresses : NoMemoryToPastAllAddresses
+no_memory_to_past_all_addresses F v = let h : 65537 ≤ 65536 = v.maximum_is_small in omega (arith, h)
+
+pub no_memory_of_64_bits_without_memory64 : NoMemoryOf64BitsWithoutMemory64
+no_memory_of_64_bits_without_memory64 v = let h : false ≡ true = v.of_64_bits_needs_memory64 refl in cc
+
+pub no_init_without_function_references : NoInitWithoutFunctionReferences
+no_init_without_function_references v = let h : false ≡ true = v.init_needs_function_references refl in cc
+
+pub no_table_past_32_bits : NoTablePast32Bits
+no_table_past_32_bits F v = let h : 4294967296 ≤ 4294967295 = v.minimum_is_small in omega (arith, h)
+
+no_exceptions : IsAllowedPiece first_version (Counted 13 0 []) → ⊥
+no_exceptions v = let h : false ≡ true = v.0 refl in cc
+
+no_bulk_memory : IsAllowedPiece first_version (DataCount 0) → ⊥
+no_bulk_memory v = let h : false ≡ true = v in cc
+
+pub sections_need_features : SectionsNeedFeatures
+sections_need_features = (no_exceptions, no_bulk_memory, λ F v. v)
+
+pub no_million_and_one_entries : NoMillionAndOneEntries
+no_million_and_one_entries F v = let h : 1000001 ≤ most_imports = v.1 refl in omega (arith, h)
+
 pub ruleset examples = (table_of_one_or_two, no_table_of_two_to_one, no_table_without_entries, memory_of_all_addresses, no_memory_past_all_addresses, memory_of_small_pages, no_memory_past_small_pages, no_memory_of_larger_pages, no_shared_global, no_tag_without_exceptions, no_mutable_import, memory_is_exported, no_second_memory, no_name_twice, size_is_three, no_start_with_parameter, no_written_elements, offsets_reference, no_passive_elements, no_passive_data, no_two_memories, header_is_module, no_version_two, each_kind_is_exported, no_declared_elements, functions_go_to_table, no_null_goes_to_table, all_expressions_reference, own_functions_are_exact)
+
+pub ruleset item_examples = (imports_stand_first, signature_counts_as_five, functions_are_referenced, no_shared_memory_without_maximum, no_memory_of_two_to_one, no_memory_to_past_all_addresses, no_memory_of_64_bits_without_memory64, no_init_without_function_references, no_table_past_32_bits, sections_need_features, no_million_and_one_entries)

@@ -7,15 +7,15 @@ use Rattle.wasm_readers_errors.specs.WasmSpec.BinarySections.{funcref, ref_func,
 use Rattle.wasm_readers_errors.specs.WasmSpec.Features.{Features}
 use Rattle.wasm_readers_errors.specs.WasmSpec.Trees.{DefType}
 use Rattle.wasm_readers_errors.specs.WasmSpec.Closing.{type_space}
-use Rattle.wasm_readers_errors.specs.WasmSpec.Framing.{Piece, Counted}
+use Rattle.wasm_readers_errors.specs.WasmSpec.Framing.{Piece, Counted, DataCount, Unknown}
 use Rattle.wasm_spec_rules.specs.Parts.{Parts, Expression, imports_of}
-use Rattle.wasm_spec_rules.specs.IndexSpaces.{IndexSpaces}
+use Rattle.wasm_spec_rules.specs.IndexSpaces.{IndexSpaces, index_spaces}
 use Rattle.wasm_spec_rules.specs.ItemRules.{IsValidTable, IsValidTableEntry, IsValidMemory, IsValidTag, IsValidGlobal}
-use Rattle.wasm_spec_rules.specs.LinkRules.{IsValidImport, exported, IsValidExport, HasDistinctNames, effective_size, IsValidStart, referenced}
+use Rattle.wasm_spec_rules.specs.LinkRules.{IsValidImport, exported, IsValidExport, HasDistinctNames, signature_size, effective_size, IsValidStart, referenced}
 use Rattle.wasm_spec_rules.specs.SegmentRules.{GoesToTable, IsValidElement, IsValidData}
 use Rattle.wasm_spec_rules.specs.Contexts.{context_over}
 use Rattle.wasm_spec_rules.specs.Limits.{KeepsLimits}
-use Rattle.wasm_spec_rules.specs.Modules.{IsWellFormed}
+use Rattle.wasm_spec_rules.specs.Modules.{IsAllowedPiece, IsWellFormed}
 
 -- the first version of the standard: floating-point numbers, and nothing that came later
 abbrev pub first_version : Features
@@ -98,6 +98,30 @@ NoMemoryPastSmallPages = (F : Features) → IsValidMemory F (paged 1048577 12) �
 abbrev pub NoMemoryOfLargerPages : Type 0
 NoMemoryOfLargerPages = (F : Features) → IsValidMemory F (paged 0 17) → ⊥
 
+-- breaks `shared_has_maximum`
+abbrev pub NoSharedMemoryWithoutMaximum : Type 0
+NoSharedMemoryWithoutMaximum = (F : Features) → IsValidMemory F (record (memory_of 1) { shared = true }) → ⊥
+
+-- breaks `minimum_at_most_maximum`
+abbrev pub NoMemoryOfTwoToOne : Type 0
+NoMemoryOfTwoToOne = (F : Features) → IsValidMemory F (record (memory_of 2) { maximum = Some 1 }) → ⊥
+
+-- breaks `maximum_is_small`
+abbrev pub NoMemoryToPastAllAddresses : Type 0
+NoMemoryToPastAllAddresses = (F : Features) → IsValidMemory F (record (memory_of 1) { maximum = Some 65537 }) → ⊥
+
+-- breaks `of_64_bits_needs_memory64`
+abbrev pub NoMemoryOf64BitsWithoutMemory64 : Type 0
+NoMemoryOf64BitsWithoutMemory64 = IsValidMemory first_version (record (memory_of 1) { is_64 = true }) → ⊥
+
+-- breaks `init_needs_function_references`
+abbrev pub NoInitWithoutFunctionReferences : Type 0
+NoInitWithoutFunctionReferences = IsValidTableEntry first_version [] (record { ty = table_of 1 None; init = Some [] }) → ⊥
+
+-- breaks `minimum_is_small`
+abbrev pub NoTablePast32Bits : Type 0
+NoTablePast32Bits = (F : Features) → IsValidTable F [] (table_of 4294967296 None) → ⊥
+
 -- breaks `shared_needs_shared_everything_threads`
 abbrev pub NoSharedGlobal : Type 0
 NoSharedGlobal = IsValidGlobal first_version [] (record { content = i32; mutable = false; shared = true }) → ⊥
@@ -146,6 +170,47 @@ NoNameTwice = HasDistinctNames (export_of 2 0 ∷ export_of 2 0 ∷ []) → ⊥
 -- one, one for the import and one for the export
 abbrev pub SizeIsThree : Type 0
 SizeIsThree = effective_size one_memory (counter ∷ []) (export_of 2 0 ∷ []) ≡ 3
+
+-- imported items stand before those that are defined
+abbrev pub two_of_each : Parts
+two_of_each = record {
+  groups = [];
+  imports =
+      record { module_name = []; item_name = []; ty = func_extern 1 } ∷ record { module_name = []; item_name = []; ty = func_exact_extern 2 }
+      ∷ record { module_name = []; item_name = []; ty = table_extern (table_of 1 None) } ∷ record { module_name = []; item_name = []; ty = memory_extern (memory_of 1) }
+      ∷ record { module_name = []; item_name = []; ty = global_extern counting_global } ∷ record { module_name = []; item_name = []; ty = tag_extern 3 } ∷ [];
+  functions = 4 ∷ [];
+  tables = record { ty = table_of 2 None; init = None } ∷ [];
+  memories = memory_of 2 ∷ [];
+  tags = 5 ∷ [];
+  globals = record { ty = record counting_global { mutable = false }; init = [] } ∷ [];
+  exports = [];
+  starts = [];
+  elements = [];
+  data_counts = [];
+  bodies = [];
+  segments = [];
+}
+
+abbrev pub ImportsStandFirst : Type 0
+ImportsStandFirst = index_spaces [] two_of_each ≡ record {
+  types = [];
+  functions = 1 ∷ 2 ∷ 4 ∷ [];
+  tables = table_of 1 None ∷ table_of 2 None ∷ [];
+  memories = memory_of 1 ∷ memory_of 2 ∷ [];
+  globals = counting_global ∷ record counting_global { mutable = false } ∷ [];
+  tags = 3 ∷ 5 ∷ [];
+}
+
+-- a signature counts as two, and each of its types as one
+abbrev pub SignatureCountsAsFive : Type 0
+SignatureCountsAsFive = signature_size (Some (i32 ∷ i64 ∷ [], i32 ∷ [])) ≡ 5
+
+-- a function is referenced by an export and by a segment that lists it
+abbrev pub FunctionsAreReferenced : Type 0
+FunctionsAreReferenced =
+    referenced (λ e. []) (record two_of_each { exports = export_of 0 4 ∷ export_of 1 6 ∷ []; elements = record { mode = declarative; items = functions (2 ∷ 3 ∷ []) } ∷ [] })
+    ≡ 4 ∷ 2 ∷ 3 ∷ []
 
 -- a module with one function type from i32 to nothing, and one import of that type
 abbrev pub taking_type : Rec ℕ
@@ -259,3 +324,11 @@ EntryWithTypesIsTwo = imports_of true two_with_types ≡ Some (import_of 0x61 �
 -- without compact imports neither is an entry
 abbrev pub NoEntryIsTwo : Type 0
 NoEntryIsTwo = (imports_of false two_of_one_type ≡ None) × (imports_of false two_with_types ≡ None)
+
+-- sections of tags need exceptions, data counts bulk memory, and a section of an unknown id is none
+abbrev pub SectionsNeedFeatures : Type 0
+SectionsNeedFeatures = (IsAllowedPiece first_version (Counted 13 0 []) → ⊥) × (IsAllowedPiece first_version (DataCount 0) → ⊥) × ((F : Features) → IsAllowedPiece F (Unknown 14 []) → ⊥)
+
+-- no more entries than a module may have imports
+abbrev pub NoMillionAndOneEntries : Type 0
+NoMillionAndOneEntries = (F : Features) → IsAllowedPiece F (Counted 2 1000001 []) → ⊥

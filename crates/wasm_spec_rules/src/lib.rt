@@ -5,7 +5,7 @@
 ghost use Rattle.wasm_spec_rules.specs.Contexts.{ContextsAreRenamed, RepeatedTypeIsOne, TypeOfOthersIsNone};
 ghost use Rattle.wasm_spec_rules.specs.LimitLaws.{LimitsAreOptIn};
 ghost use Rattle.wasm_spec_rules.specs.Totals.{TotalsGoOn};
-ghost use Rattle.wasm_spec_rules.specs.ModuleExamples.{TableOfOneOrTwo, NoTableOfTwoToOne, NoTableWithoutEntries, MemoryOfAllAddresses, NoMemoryPastAllAddresses, MemoryOfSmallPages, NoMemoryPastSmallPages, NoMemoryOfLargerPages, NoSharedGlobal, NoTagWithoutExceptions, NoMutableImport, MemoryIsExported, NoSecondMemory, NoNameTwice, SizeIsThree, NoStartWithParameter, NoPassiveElements, NoWrittenElements, OffsetsReference, NoPassiveData, NoTwoMemories, HeaderIsModule, NoVersionTwo, EntryOfOneTypeIsTwo, EntryWithTypesIsTwo, NoEntryIsTwo, EachKindIsExported, NoDeclaredElements, FunctionsGoToTable, NoNullGoesToTable, AllExpressionsReference, OwnFunctionsAreExact};
+ghost use Rattle.wasm_spec_rules.specs.ModuleExamples.{TableOfOneOrTwo, NoTableOfTwoToOne, NoTableWithoutEntries, MemoryOfAllAddresses, NoMemoryPastAllAddresses, MemoryOfSmallPages, NoMemoryPastSmallPages, NoMemoryOfLargerPages, NoSharedGlobal, NoTagWithoutExceptions, NoMutableImport, MemoryIsExported, NoSecondMemory, NoNameTwice, SizeIsThree, NoStartWithParameter, NoPassiveElements, NoWrittenElements, OffsetsReference, NoPassiveData, NoTwoMemories, HeaderIsModule, NoVersionTwo, EntryOfOneTypeIsTwo, EntryWithTypesIsTwo, NoEntryIsTwo, EachKindIsExported, NoDeclaredElements, FunctionsGoToTable, NoNullGoesToTable, AllExpressionsReference, OwnFunctionsAreExact, ImportsStandFirst, SignatureCountsAsFive, FunctionsAreReferenced, NoSharedMemoryWithoutMaximum, NoMemoryOfTwoToOne, NoMemoryToPastAllAddresses, NoMemoryOf64BitsWithoutMemory64, NoInitWithoutFunctionReferences, NoTablePast32Bits, SectionsNeedFeatures, NoMillionAndOneEntries};
 ghost use Rattle.wasm_spec_rules.specs.Bodies.{BodiesAreAsManyAsFunctions};
 
 /// Worked examples of the rules of modules.
@@ -43,6 +43,22 @@ pub fn module_examples()
     ensures no_null_to_table { NoNullGoesToTable }
     ensures all_expressions { AllExpressionsReference }
     ensures exact { OwnFunctionsAreExact }
+{}
+
+/// Worked examples of index spaces, and of memories, tables and sections that break a rule.
+#[tactic(auto, using(crate::proofs::ModuleExamples::item_examples))]
+pub fn item_examples()
+    ensures imports_first { ImportsStandFirst }
+    ensures signature { SignatureCountsAsFive }
+    ensures referenced_functions { FunctionsAreReferenced }
+    ensures no_shared_memory { NoSharedMemoryWithoutMaximum }
+    ensures no_memory_of_two_to_one { NoMemoryOfTwoToOne }
+    ensures no_memory_to_past { NoMemoryToPastAllAddresses }
+    ensures no_memory_of_64_bits { NoMemoryOf64BitsWithoutMemory64 }
+    ensures no_init { NoInitWithoutFunctionReferences }
+    ensures no_long_table { NoTablePast32Bits }
+    ensures sections { SectionsNeedFeatures }
+    ensures no_entries_past { NoMillionAndOneEntries }
 {}
 
 /// Without `crate_limits` every composite type and every name keeps the limits that it asks for; with
