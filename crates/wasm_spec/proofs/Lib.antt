@@ -17,3 +17,4 @@ pub mod AcceptedSections
 pub mod Depths
 pub mod BinaryExamples
 pub mod LimitExamples
+pub mod RuleExamples

@@ -24,3 +24,4 @@ pub mod TypeExamples
 pub mod TreeCode
 pub mod BinaryExamples
 pub mod LimitExamples
+pub mod RuleExamples

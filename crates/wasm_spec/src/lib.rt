@@ -11,6 +11,7 @@ ghost use Rattle.wasm_spec.specs.Laws.{ReadingRenames, ReadingGoesOn, ReadingIgn
 ghost use Rattle.wasm_spec.specs.TypeLaws.{MembersOfClosed, StartOfClosed, EqualTreesEqualGroups, DifferentGroupsDifferentTypes, AppendedGroup, FrontOfTypeSpace, EarlierTypesStay, SingleRecIsPlain, EachWrittenGroupIsItsOwn, MatchingIsReflexive, MatchingIsTransitive, MatchingIsAntisymmetric, AcceptedTypesMatchAncestors, DepthsAreSmall, ValidTypeSectionIsAccepted, TestsDecideMatching, SelfMentionsAreOneTree, TypesDeclareWhatIsWritten, AppendedListedGroup, EarlierIdsStay, EqualTreesEqualListedGroups, ListedGroupIsWrittenGroup};
 ghost use Rattle.wasm_spec.specs.TypeExamples.{FinalStructStillMatches, ExtendedStructHasOneAncestor, DescribedPairIsValid, MutualStructsAreOneTree, MutualStructsAreTypes, NoRecWithoutGc, NoIndexPastTheEnd, ExtendsOpenStruct, FinalStructIsNotExtended, ImmutableFieldMatches, MutableFieldDoesNotMatch, ParametersMatchBackwards, ParametersDoNotMatchForwards, SixtyThreeAncestors, NoSixtyFourAncestors, PackedFieldsAreAllowed, NoVectorFieldWithoutSimd};
 ghost use Rattle.wasm_spec.specs.BinaryExamples.{HeapTypesOfOneByte, ReferencesAreNeverNull, ReferencesMayBeNull, StructuresAreRead, ImportIsRead, EntriesAreRead, BodiesAreOfFunctions, SegmentsAreCounted, UnsignedNumbersAreRead, SignedNumbersAreRead, ValueTypesAreRead, FieldsAreRead, CompositeTypesAreRead, GroupsAreRead, MemoriesAreRead, TablesAreRead, GlobalsAndTagsAreRead, ExternTypesAreRead, ExportIsRead, ElementsAreRead, DataAreRead, EntriesWithExpressionsAreRead, SectionsHavePlaces};
+ghost use Rattle.wasm_spec.specs.RuleExamples.{FeaturesAllowHeapTypes, FeaturesAllowReferences, FeaturesAllowValues, KindsHaveBounds, ValuesHaveDefaults, IndicesPointInBounds, NoOpenTypeWithoutGc, NoSharedTypeWithoutSharing, NoSharedFieldOfUnshared, NoManyResultsWithoutMultiValue, NoAggregatesWithoutGc, NoContinuationsWithoutFeatures, NoDescriptorsOfFunctions, NoDescriptorsWithoutFeature};
 ghost use Rattle.wasm_spec.specs.LimitExamples.{MillionOfMost, HundredOrOne, SegmentsAndBodies};
 
 /// Reading with renamed type indices is reading, and renaming what was read.
@@ -133,6 +134,25 @@ pub fn type_examples()
     ensures no_more_ancestors { NoSixtyFourAncestors }
     ensures packed { PackedFieldsAreAllowed }
     ensures no_vector { NoVectorFieldWithoutSimd }
+{}
+
+/// Worked examples of the rules of types: what features allow, and types that break a rule.
+#[tactic(auto, using(crate::proofs::RuleExamples::examples))]
+pub fn rule_examples()
+    ensures heap_types { FeaturesAllowHeapTypes }
+    ensures references { FeaturesAllowReferences }
+    ensures values { FeaturesAllowValues }
+    ensures kinds { KindsHaveBounds }
+    ensures defaults { ValuesHaveDefaults }
+    ensures indices { IndicesPointInBounds }
+    ensures no_open { NoOpenTypeWithoutGc }
+    ensures no_shared { NoSharedTypeWithoutSharing }
+    ensures no_unshared_field { NoSharedFieldOfUnshared }
+    ensures no_results { NoManyResultsWithoutMultiValue }
+    ensures no_aggregates { NoAggregatesWithoutGc }
+    ensures no_continuations { NoContinuationsWithoutFeatures }
+    ensures no_descriptors { NoDescriptorsOfFunctions }
+    ensures no_descriptors_without_feature { NoDescriptorsWithoutFeature }
 {}
 
 /// Worked examples of the binary format: bytes, and what they are read as.
