@@ -1,4 +1,5 @@
 pub use Rattle.wasm_typing_numbers.proofs.WasmTypingChecks as WasmTypingChecks
+pub use Rattle.wasm_typing_numbers.proofs.TableLookups as TableLookups
 pub mod LocalOperators
 pub mod GlobalLookups
 pub mod LabelTypes

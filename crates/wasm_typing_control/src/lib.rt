@@ -40,7 +40,7 @@ pub use tails::{return_call, return_call_indirect, return_call_ref};
 pub mod typing_numbers {
     pub use wasm_typing_numbers::{
         access_memory, allows_number, bulk_memory, compute, constant, step_atomic, step_table,
-        step_vector, step_wide,
+        step_vector, step_wide, table_reached,
     };
 }
 

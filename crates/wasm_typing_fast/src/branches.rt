@@ -44,8 +44,7 @@ pub(crate) fn trap<A: Allocator, T: WasmModuleResources>(
     Ok(())
 }
 
-/// `br`. Where it isn't seen at once that the operands are of the label's types, the general way
-/// decides.
+/// `br`. Where operands aren't seen at once to be of the label's types, the general way decides.
 #[inline(always)]
 #[tactic(auto, using(crate::proofs::FastActions::acts, crate::proofs::BranchOperands::branches))]
 pub(crate) fn branch_away<A: Allocator, T: WasmModuleResources>(

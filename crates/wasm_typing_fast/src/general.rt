@@ -31,7 +31,7 @@ pub(crate) fn call_generally<A: Allocator, T: WasmModuleResources>(
 /// `call_indirect`.
 #[cold]
 #[inline(never)]
-pub(crate) fn call_in_table<A: Allocator, T: WasmModuleResources>(
+pub(crate) fn call_in_table_generally<A: Allocator, T: WasmModuleResources>(
     stacks: &mut Stacks<A>,
     resources: &T,
     type_index: u32,

@@ -1,4 +1,4 @@
-use Rattle.wasm_typing_fast.proofs.general.call_in_table.Goals as goal
+use Rattle.wasm_typing_fast.proofs.general.call_in_table_generally.Goals as goal
 
 pub returns-clause-took : goal.returns-clause-took
 returns-clause-took g c =
