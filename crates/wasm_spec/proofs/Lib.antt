@@ -15,3 +15,6 @@ pub mod TypeLawSet
 pub mod TypeExamples
 pub mod AcceptedSections
 pub mod Depths
+pub mod BinaryExamples
+pub mod LimitExamples
+pub mod RuleExamples

@@ -9,7 +9,7 @@ use Rattle.wasm_spec.specs.Closing.{resolve}
 use Rattle.wasm_spec.specs.SupertypeOrder.{supertype, ancestor_at}
 use Rattle.wasm_spec.specs.GroupRules.{TypeRules, IsValidType}
 use Rattle.wasm_spec.specs.Matching.{MatchesAbstract, itself, further, eq-any}
-use Rattle.wasm_spec.specs.TypeExamples.{FinalStructStillMatches, ExtendedStructHasOneAncestor, features, described_pair, DescribedPairIsValid, MutualStructsAreOneTree, MutualStructsAreTypes, NoRecWithoutGc, NoIndexPastTheEnd, ExtendsOpenStruct, FinalStructIsNotExtended, ImmutableFieldMatches, MutableFieldDoesNotMatch, ParametersMatchBackwards, ParametersDoNotMatchForwards}
+use Rattle.wasm_spec.specs.TypeExamples.{FinalStructStillMatches, ExtendedStructHasOneAncestor, features, described_pair, DescribedPairIsValid, MutualStructsAreOneTree, MutualStructsAreTypes, NoRecWithoutGc, NoIndexPastTheEnd, ExtendsOpenStruct, FinalStructIsNotExtended, ImmutableFieldMatches, MutableFieldDoesNotMatch, ParametersMatchBackwards, ParametersDoNotMatchForwards, SixtyThreeAncestors, NoSixtyFourAncestors, PackedFieldsAreAllowed, NoVectorFieldWithoutSimd}
 use Rattle.wasm_spec.proofs.Matching.{goes_up}
 
 pub mutual_structs_are_one_tree : MutualStructsAreOneTree
@@ -52,6 +52,38 @@ final_struct_still_matches = record { same_shared = refl; comp = tt }
 
 pub extended_struct_has_one_ancestor : ExtendedStructHasOneAncestor
 extended_struct_has_one_ancestor = record { top = 0; leads = refl; is_top = refl }
+
+pub sixty_three_ancestors : SixtyThreeAncestors
+sixty_three_ancestors = record {
+  subtyping_needs_gc = λ _. refl;
+  supertype_is_not_final = refl;
+  matches_supertype = record { same_shared = refl; comp = tt };
+  few_ancestors = refl;
+  shared_needs_shared_everything_threads = λ _. refl;
+  members_of_shared_are_shared = λ _. refl;
+  many_results_need_multi_value = λ _. refl;
+  array_needs_gc = λ _. refl;
+  array_needs_gc_types = λ _. refl;
+  struct_needs_gc = λ _. refl;
+  struct_needs_gc_types = λ _. refl;
+  continuation_needs_stack_switching = λ _. refl;
+  continuation_needs_gc_types = λ _. refl;
+  continuation_is_of_function = tt;
+  members_are_allowed = refl;
+  limits_are_kept = refl;
+}
+
+no_first : (n : ℕ) → Some n ≡ None → ⊥
+no_first n e = cc
+
+pub no_sixty_four_ancestors : NoSixtyFourAncestors
+no_sixty_four_ancestors F v = no_first 0 v.few_ancestors
+
+pub packed_fields_are_allowed : PackedFieldsAreAllowed
+packed_fields_are_allowed = (refl, refl)
+
+pub no_vector_field_without_simd : NoVectorFieldWithoutSimd
+no_vector_field_without_simd D a v = true≢false (sym v.members_are_allowed)
 
 no_any_eq : MatchesAbstract any_heap eq_heap → ⊥
 no_any_eq h = omega (arith, goes_up h)

@@ -22,3 +22,6 @@ pub mod LinkMatching
 pub mod TypeLaws
 pub mod TypeExamples
 pub mod TreeCode
+pub mod BinaryExamples
+pub mod LimitExamples
+pub mod RuleExamples

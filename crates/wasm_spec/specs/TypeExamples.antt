@@ -1,10 +1,11 @@
 -- Worked examples of closing, matching and the rules of groups, as facts that a contract can name.
-use Rattle.std.specs.Prelude.{◌≡◌, ℕ, ◌+◌, Bool, true, false, List, [], ◌∷◌, ◌++◌, slice_get, Option, Some, None, option_map, is_some}
-use Rattle.wasm_spec.specs.Syntax.{any_heap, eq_heap, Heap, abstract_heap, concrete, Val, reference, unpacked, Field, Comp, func, struct, Sub, Rec}
+use Rattle.std.specs.Prelude.{◌≡◌, ℕ, zero, suc, ◌+◌, Bool, true, false, List, [], ◌∷◌, ◌++◌, slice_get, Option, Some, None, option_map, is_some}
+use Rattle.wasm_spec.specs.Syntax.{any_heap, eq_heap, Heap, abstract_heap, concrete, Val, v128, reference, i8, i16, unpacked, Field, Comp, func, struct, Sub, Rec}
 use Rattle.wasm_spec.specs.Features.{Features}
 use Rattle.wasm_spec.specs.Closing.{type_space}
 use Rattle.wasm_spec.specs.Matching.{MatchesField, MatchesComp, MatchesSub}
 use Rattle.wasm_spec.specs.SupertypeOrder.{IsDepth}
+use Rattle.wasm_spec.specs.ValueTypes.{allows_storage}
 use Rattle.wasm_spec.specs.GroupRules.{TypeRules, OfSupertype, IsValidTypeSection}
 
 -- every proposal, or none, and no limits of `crate_limits`
@@ -90,6 +91,27 @@ FinalStructStillMatches = OfSupertype (extended true) (plain true (0 ∷ []) (st
 
 abbrev pub ExtendedStructHasOneAncestor : Type 0
 ExtendedStructHasOneAncestor = IsDepth (extended true) 1 1
+
+-- structs, each of which but the first extends the one before it
+abbrev pub chain : ℕ → Option (Sub ℕ)
+chain zero = Some (plain false [] (struct []))
+chain (suc n) = Some (plain false (n ∷ []) (struct []))
+
+-- A type may have 63 proper ancestors, as many as the struct 63 has.
+abbrev pub SixtyThreeAncestors : Type 0
+SixtyThreeAncestors = TypeRules (features true) chain 63 (plain false (62 ∷ []) (struct []))
+
+-- breaks `few_ancestors`
+abbrev pub NoSixtyFourAncestors : Type 0
+NoSixtyFourAncestors = (F : Features) → TypeRules F chain 64 (plain false (63 ∷ []) (struct [])) → ⊥
+
+-- A packed field needs no feature of its own.
+abbrev pub PackedFieldsAreAllowed : Type 0
+PackedFieldsAreAllowed = (allows_storage {R = ℕ} (features false) i8 ≡ true) × (allows_storage {R = ℕ} (features false) i16 ≡ true)
+
+-- breaks `members_are_allowed`: a field of a vector needs simd
+abbrev pub NoVectorFieldWithoutSimd : Type 0
+NoVectorFieldWithoutSimd = (D : ℕ → Option (Sub ℕ)) (a : ℕ) → TypeRules (record (features true) { simd = false }) D a (plain true [] (struct (field false v128 ∷ []))) → ⊥
 
 -- a struct and its descriptor
 abbrev pub described_pair : Rec ℕ

@@ -9,7 +9,10 @@ ghost use Rattle.wasm_spec.specs.BinaryTypes.{val_at, rec_at};
 ghost use Rattle.wasm_spec.specs.BinaryModules.{import_at, entry_at, export_at, map_import, map_entry};
 ghost use Rattle.wasm_spec.specs.Laws.{ReadingRenames, ReadingGoesOn, ReadingIgnoresWhatFollows, MapAfterMap, MapBySame};
 ghost use Rattle.wasm_spec.specs.TypeLaws.{MembersOfClosed, StartOfClosed, EqualTreesEqualGroups, DifferentGroupsDifferentTypes, AppendedGroup, FrontOfTypeSpace, EarlierTypesStay, SingleRecIsPlain, EachWrittenGroupIsItsOwn, MatchingIsReflexive, MatchingIsTransitive, MatchingIsAntisymmetric, AcceptedTypesMatchAncestors, DepthsAreSmall, ValidTypeSectionIsAccepted, TestsDecideMatching, SelfMentionsAreOneTree, TypesDeclareWhatIsWritten, AppendedListedGroup, EarlierIdsStay, EqualTreesEqualListedGroups, ListedGroupIsWrittenGroup};
-ghost use Rattle.wasm_spec.specs.TypeExamples.{FinalStructStillMatches, ExtendedStructHasOneAncestor, DescribedPairIsValid, MutualStructsAreOneTree, MutualStructsAreTypes, NoRecWithoutGc, NoIndexPastTheEnd, ExtendsOpenStruct, FinalStructIsNotExtended, ImmutableFieldMatches, MutableFieldDoesNotMatch, ParametersMatchBackwards, ParametersDoNotMatchForwards};
+ghost use Rattle.wasm_spec.specs.TypeExamples.{FinalStructStillMatches, ExtendedStructHasOneAncestor, DescribedPairIsValid, MutualStructsAreOneTree, MutualStructsAreTypes, NoRecWithoutGc, NoIndexPastTheEnd, ExtendsOpenStruct, FinalStructIsNotExtended, ImmutableFieldMatches, MutableFieldDoesNotMatch, ParametersMatchBackwards, ParametersDoNotMatchForwards, SixtyThreeAncestors, NoSixtyFourAncestors, PackedFieldsAreAllowed, NoVectorFieldWithoutSimd};
+ghost use Rattle.wasm_spec.specs.BinaryExamples.{HeapTypesOfOneByte, ReferencesAreNeverNull, ReferencesMayBeNull, StructuresAreRead, ImportIsRead, EntriesAreRead, BodiesAreOfFunctions, SegmentsAreCounted, UnsignedNumbersAreRead, SignedNumbersAreRead, ValueTypesAreRead, FieldsAreRead, CompositeTypesAreRead, GroupsAreRead, MemoriesAreRead, TablesAreRead, GlobalsAndTagsAreRead, ExternTypesAreRead, ExportIsRead, ElementsAreRead, DataAreRead, EntriesWithExpressionsAreRead, SectionsHavePlaces};
+ghost use Rattle.wasm_spec.specs.RuleExamples.{FeaturesAllowHeapTypes, FeaturesAllowReferences, FeaturesAllowValues, KindsHaveBounds, ValuesHaveDefaults, IndicesPointInBounds, NoOpenTypeWithoutGc, NoSharedTypeWithoutSharing, NoSharedFieldOfUnshared, NoManyResultsWithoutMultiValue, NoAggregatesWithoutGc, NoContinuationsWithoutFeatures, NoDescriptorsOfFunctions, NoDescriptorsWithoutFeature};
+ghost use Rattle.wasm_spec.specs.LimitExamples.{MillionOfMost, HundredOrOne, SegmentsAndBodies};
 
 /// Reading with renamed type indices is reading, and renaming what was read.
 #[tactic(auto, using(crate::proofs::LawSet::renaming_laws))]
@@ -127,4 +130,63 @@ pub fn type_examples()
     ensures mutable { MutableFieldDoesNotMatch }
     ensures backwards { ParametersMatchBackwards }
     ensures forwards { ParametersDoNotMatchForwards }
+    ensures ancestors { SixtyThreeAncestors }
+    ensures no_more_ancestors { NoSixtyFourAncestors }
+    ensures packed { PackedFieldsAreAllowed }
+    ensures no_vector { NoVectorFieldWithoutSimd }
+{}
+
+/// Worked examples of the rules of types: what features allow, and types that break a rule.
+#[tactic(auto, using(crate::proofs::RuleExamples::examples))]
+pub fn rule_examples()
+    ensures heap_types { FeaturesAllowHeapTypes }
+    ensures references { FeaturesAllowReferences }
+    ensures values { FeaturesAllowValues }
+    ensures kinds { KindsHaveBounds }
+    ensures defaults { ValuesHaveDefaults }
+    ensures indices { IndicesPointInBounds }
+    ensures no_open { NoOpenTypeWithoutGc }
+    ensures no_shared { NoSharedTypeWithoutSharing }
+    ensures no_unshared_field { NoSharedFieldOfUnshared }
+    ensures no_results { NoManyResultsWithoutMultiValue }
+    ensures no_aggregates { NoAggregatesWithoutGc }
+    ensures no_continuations { NoContinuationsWithoutFeatures }
+    ensures no_descriptors { NoDescriptorsOfFunctions }
+    ensures no_descriptors_without_feature { NoDescriptorsWithoutFeature }
+{}
+
+/// Worked examples of the binary format: bytes, and what they are read as.
+#[tactic(auto, using(crate::proofs::BinaryExamples::examples))]
+pub fn binary_examples()
+    ensures heap_types { HeapTypesOfOneByte }
+    ensures never_null { ReferencesAreNeverNull }
+    ensures may_be_null { ReferencesMayBeNull }
+    ensures structures { StructuresAreRead }
+    ensures import { ImportIsRead }
+    ensures entries { EntriesAreRead }
+    ensures bodies { BodiesAreOfFunctions }
+    ensures segments { SegmentsAreCounted }
+    ensures unsigned { UnsignedNumbersAreRead }
+    ensures signed { SignedNumbersAreRead }
+    ensures values { ValueTypesAreRead }
+    ensures fields { FieldsAreRead }
+    ensures composites { CompositeTypesAreRead }
+    ensures groups { GroupsAreRead }
+    ensures memories { MemoriesAreRead }
+    ensures tables { TablesAreRead }
+    ensures globals { GlobalsAndTagsAreRead }
+    ensures externs { ExternTypesAreRead }
+    ensures exports { ExportIsRead }
+    ensures elements { ElementsAreRead }
+    ensures data { DataAreRead }
+    ensures with_expressions { EntriesWithExpressionsAreRead }
+    ensures places { SectionsHavePlaces }
+{}
+
+/// The numbers of the limits.
+#[tactic(auto, using(crate::proofs::LimitExamples::examples))]
+pub fn limit_examples()
+    ensures million { MillionOfMost }
+    ensures hundred { HundredOrOne }
+    ensures segments { SegmentsAndBodies }
 {}

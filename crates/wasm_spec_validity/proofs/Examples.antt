@@ -25,7 +25,7 @@ use Rattle.wasm_spec_steps.specs.Sequences.{Are}
 use Rattle.wasm_spec_steps.specs.Steps.{start}
 use Rattle.wasm_spec_validity.specs.Expressions.{instructions_of, expression_at, named}
 use Rattle.wasm_spec_validity.specs.Typing.{seeing, around, IsConstant, IsTypedGlobal, IsTypedTable, IsTypedElement, IsTypedData}
-use Rattle.wasm_spec_validity.specs.Examples.{without_gc, without_extended_const, context, global_of, one_i32, one_i64, global_0, one_and_two, NumberIsConstant, NumberOfAnotherType, NoTwoEnds, NoMissingEnd, FirstGlobalIsRead, NoMutableGlobalIsRead, NoGlobalIsReadWithoutGc, ImportedGlobalIsRead, NoGlobalReadsItself, SumIsConstant, NoSumWithoutExtendedConst, TableReadsImportedGlobal, NoTableReadsOwnGlobal, OffsetsAreAddresses, NoOtherDataOffsets, NoOtherElementOffsets, OffsetReadsGlobal, function_1, null, FunctionAndNullAreItems, NoNullItem, initialized, three_globals, itself, GlobalsComeBehindImports, BodiesGiveResults, NoExchangedBodies, NoLastBodyWithoutEnd, OneGlobalIsImported, ReadToItsEnd, NothingReadWithoutEnd, FunctionIsNamed}
+use Rattle.wasm_spec_validity.specs.Examples.{without_gc, without_extended_const, context, global_of, one_i32, one_i64, global_0, one_and_two, NumberIsConstant, NumberOfAnotherType, NoTwoEnds, NoMissingEnd, FirstGlobalIsRead, NoMutableGlobalIsRead, NoGlobalIsReadWithoutGc, ImportedGlobalIsRead, NoGlobalReadsItself, SumIsConstant, NoSumWithoutExtendedConst, TableReadsImportedGlobal, NoTableReadsOwnGlobal, OffsetsAreAddresses, NoOtherDataOffsets, NoOtherElementOffsets, OffsetReadsGlobal, ElementOffsetReadsGlobal, function_1, null, FunctionAndNullAreItems, NoNullItem, initialized, three_globals, itself, GlobalsComeBehindImports, BodiesGiveResults, NoExchangedBodies, NoLastBodyWithoutEnd, OneGlobalIsImported, ReadToItsEnd, NothingReadWithoutEnd, FunctionIsNamed}
 use Rattle.wasm_spec_validity.proofs.ExpressionTests.{determined, leads, leads-if, all_of, last_of, are_all_read, is_constant_expression, is_constant-if, is_constant-by}
 
 no : false ≡ true → ⊥
@@ -120,6 +120,10 @@ no_other_element_offsets = ((λ x. refused (features true) (context []) 0 0 i32 
 pub offset_reads_global : OffsetReadsGlobal
 unfolding instruction_at plain_from variable_from control_from
 offset_reads_global = accepted (features true) (context (global_of false i32 ∷ [])) 0 1 i32 global_0 refl refl
+
+pub element_offset_reads_global : ElementOffsetReadsGlobal
+unfolding instruction_at plain_from variable_from control_from
+element_offset_reads_global = (accepted (features true) (context (global_of false i32 ∷ [])) 0 1 i32 global_0 refl refl, tt)
 
 -- items
 abbrev IsItem : Ref ℕ → Expression → Type 0

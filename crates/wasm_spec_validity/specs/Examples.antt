@@ -137,6 +137,10 @@ NoOtherElementOffsets = (AreElementsAt 0 one_i64 → ⊥) × (AreElementsAt 1 on
 abbrev pub OffsetReadsGlobal : Type 0
 OffsetReadsGlobal = IsTypedData nat_eq (features true) (context (global_of false i32 ∷ [])) 0 itself (record { mode = active None global_0; bytes = [] })
 
+-- so does that of elements
+abbrev pub ElementOffsetReadsGlobal : Type 0
+ElementOffsetReadsGlobal = IsTypedElement nat_eq (features true) (context (global_of false i32 ∷ [])) 0 itself (record { mode = active None global_0; items = functions [] })
+
 -- expressions as items of this type
 abbrev pub AreItems : Ref ℕ → List Expression → Type 0
 AreItems r es = IsTypedElement nat_eq (features true) (context []) 0 itself (record { mode = passive; items = expressions r es })

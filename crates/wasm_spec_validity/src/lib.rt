@@ -7,7 +7,7 @@
 
 ghost use Rattle.wasm_spec_validity.specs.Laws.{TypesAreNumbered, NumbersTellTypesApart, PlainModulesAreValid, ExpressionsAreWhole, OwnReferencesSuffice};
 ghost use Rattle.wasm_spec_validity.specs.OtherContexts.{ConstantsSeeLittle, ConstantsRename};
-ghost use Rattle.wasm_spec_validity.specs.Examples.{NumberIsConstant, NumberOfAnotherType, NoTwoEnds, NoMissingEnd, FirstGlobalIsRead, NoMutableGlobalIsRead, NoGlobalIsReadWithoutGc, ImportedGlobalIsRead, NoGlobalReadsItself, SumIsConstant, NoSumWithoutExtendedConst, TableReadsImportedGlobal, NoTableReadsOwnGlobal, OffsetsAreAddresses, NoOtherDataOffsets, NoOtherElementOffsets, OffsetReadsGlobal, FunctionAndNullAreItems, NoNullItem, GlobalsComeBehindImports, BodiesGiveResults, NoExchangedBodies, NoLastBodyWithoutEnd, OneGlobalIsImported, ReadToItsEnd, NothingReadWithoutEnd, FunctionIsNamed, GlobalIsModule, NoGlobalOfAnotherType};
+ghost use Rattle.wasm_spec_validity.specs.Examples.{NumberIsConstant, NumberOfAnotherType, NoTwoEnds, NoMissingEnd, FirstGlobalIsRead, NoMutableGlobalIsRead, NoGlobalIsReadWithoutGc, ImportedGlobalIsRead, NoGlobalReadsItself, SumIsConstant, NoSumWithoutExtendedConst, TableReadsImportedGlobal, NoTableReadsOwnGlobal, OffsetsAreAddresses, NoOtherDataOffsets, NoOtherElementOffsets, OffsetReadsGlobal, ElementOffsetReadsGlobal, FunctionAndNullAreItems, NoNullItem, GlobalsComeBehindImports, BodiesGiveResults, NoExchangedBodies, NoLastBodyWithoutEnd, OneGlobalIsImported, ReadToItsEnd, NothingReadWithoutEnd, FunctionIsNamed, GlobalIsModule, NoGlobalOfAnotherType};
 ghost use Rattle.wasm_spec_validity.specs.OneToOne.{NumberingsSayTheSame};
 ghost use Rattle.wasm_spec_validity.specs.Renaming.{BodiesAreRenamed, TypedBodiesAreRenamed};
 
@@ -73,6 +73,7 @@ pub fn segment_examples()
     ensures no_data_offsets { NoOtherDataOffsets }
     ensures no_element_offsets { NoOtherElementOffsets }
     ensures global { OffsetReadsGlobal }
+    ensures element_global { ElementOffsetReadsGlobal }
     ensures items { FunctionAndNullAreItems }
     ensures no_null_item { NoNullItem }
 {}
