@@ -27,14 +27,14 @@ use Rattle.wasm_validator_side_table.proofs.NextInstructions.{reaches_more}
 module _ {A : Type 0} (C : Context UnpackedIndex) (v w : OperatorValidator A) (old : BinaryReader) (kept : Kept v.stacks w.stacks) where
   -- the table
   pub table_more :
-      (u : OperatorValidator A) (first new : BinaryReader) (T0 T U : Built) (high : ℕ)
-      → Reaches (world C) (within v C) (typed_state v) T0 (place_of_next first) (rest first) (typed_state w) T high (place_of_next old) (rest old)
+      (u : OperatorValidator A) (first new : BinaryReader) (S T U : Built) (high : ℕ)
+      → Reaches (world C) (within v C) (typed_state v) S (place_of_next first) (rest first) (typed_state w) T high (place_of_next old) (rest old)
       → Advances (world C) (within w C) (typed_state w) T (place_of_next old) (rest old) (typed_state u) U (place_of_next new) (rest new)
-      → Reaches (world C) (within v C) (typed_state v) T0 (place_of_next first) (rest first) (typed_state u) U (max high (length (typed_state u).operands)) (place_of_next new) (rest new)
-  table_more u first new T0 T U high reaches advances =
+      → Reaches (world C) (within v C) (typed_state v) S (place_of_next first) (rest first) (typed_state u) U (max high (length (typed_state u).operands)) (place_of_next new) (rest new)
+  table_more u first new S T U high reaches advances =
       let step : Advances (world C) (within v C) (typed_state w) T (place_of_next old) (rest old) (typed_state u) U (place_of_next new) (rest new) =
       subst (λ (B : Surroundings UnpackedIndex). Advances (world C) B (typed_state w) T (place_of_next old) (rest old) (typed_state u) U (place_of_next new) (rest new)) (kept_around v.stacks w.stacks C kept) advances in
-      reaches_more (world C) (within v C) (typed_state v) (typed_state w) (typed_state u) T0 T U (place_of_next first) high (place_of_next old) (place_of_next new) (rest first) (rest old) (rest new) reaches step
+      reaches_more (world C) (within v C) (typed_state v) (typed_state w) (typed_state u) S T U (place_of_next first) high (place_of_next old) (place_of_next new) (rest first) (rest old) (rest new) reaches step
 
   module _ (most : ℕ) (all : Option (State UnpackedIndex × List ℕ)) (open_ : is_finished (typed_state w) ≡ false) (so_far : typed_from (world C) (within v C) most (typed_state w) (rest old) ≡ all) where
     -- the instructions
