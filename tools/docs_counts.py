@@ -91,7 +91,7 @@ def counts(tree):
     by_hand_calls = sum(int(it) for it in re.findall(r"(?m)^(\d+) (?:calls|tests) by hand$", "\n".join(map(tree.read, tree.files("crates", "tests", ending="stdout")))))
     limits, spec = "crates/wasm_validator_core/src/limits.rt", "crates/wasm_spec_instructions/specs"
     rules = [f"{spec}/{it}.antt" for it in ("Code", "ValueTypes", "Scopes", "Rules", "Sequences", "Expressions")]
-    bodies = [f"crates/wasm_laws_instructions/specs/{it}.antt" for it in ("Bodies", "Modules")]
+    bodies = [f"crates/wasm_laws_soundness/specs/{it}.antt" for it in ("BodiesByRules", "ModulesByRules")]
     defined = specs(tree, "wasm_spec", "wasm_spec_rules", "wasm_spec_steps", "wasm_spec_instructions", "wasm_spec_validity")
     defined += specs(tree, "wasm_operators_plain", "wasm_operators_vector", "wasm_operators_atomic", "wasm_operators")
     ids = constant(tree, "crates/wasm_readers_values/src/indices.rt", "MAX_IDS")
@@ -111,7 +111,7 @@ def counts(tree):
         (rf"{DIGITS} lines of \[?definitions", {Specification.of(tree).theorem}),
         (rf"{DIGITS} lines, with laws and examples", {count_lines(tree, *defined)}),
         (rf"`Expressions` \({DIGITS} lines\)", {count_lines(tree, *rules)}),
-        (rf"`wasm_laws_instructions` \({DIGITS} lines\)", {count_lines(tree, *bodies)}),
+        (rf"`ModulesByRules` of `wasm_laws_soundness` \({DIGITS} lines\)", {count_lines(tree, *bodies)}),
         (rf"rules of the standard's chapter, some {DIGITS} lines", {count_lines(tree, *rules, *bodies)}),
         (rf"locals \({DIGITS}\)|locals are at most {DIGITS}|than {DIGITS} locals", {constant(tree, "crates/wasm_typing_stacks/src/locals.rt", "MAX_LOCALS")}),
         (rf"items of a segment \({DIGITS}\)|at most {DIGITS} items", {constant(tree, "crates/wasm_validator_segments/src/lists.rt", "MAX_ITEMS")}),

@@ -12,7 +12,7 @@ from spec_names import Names, Specs, uses_of
 
 PAGE = "docs/SPECIFICATION.md"
 LIST = ("wasm_validator", "crates/wasm_validator/src/list.rt", "validate_list")
-RULES = ("wasm_laws_instructions", "crates/wasm_laws_instructions/src/lib.rt", "modules_are_typed")
+RULES = ("wasm_laws_soundness", "crates/wasm_laws_soundness/src/lib.rt", "modules_are_typed")
 VALIDATOR = ("wasm_validator_modules", "crates/wasm_validator_modules/src/validator.rt")
 SIGNATURE = "the types of its signature"
 BINARY, MEMORY = "Binary Format, Instructions, Vector Instructions", "Threads, Binary Format, Instructions, Atomic Memory Instructions"
@@ -79,8 +79,8 @@ CHAPTERS = [
     (
         "Validity",
         "When a module is valid: by the algorithm, and by the rules.",
-        "wasm_spec_validity/Expressions wasm_spec_validity/Typing wasm_spec_validity/Modules wasm_laws_instructions/Bodies wasm_laws_instructions/Modules "
-        "wasm_laws_instructions/Laws",
+        "wasm_spec_validity/Expressions wasm_spec_validity/Typing wasm_spec_validity/Modules wasm_laws_soundness/BodiesByRules "
+        "wasm_laws_soundness/ModulesByRules wasm_laws_soundness/TypingLaws",
     ),
     (
         "What the answers show",
@@ -107,7 +107,7 @@ SECTIONS = {
     "wasm_operators/Legacy": "the legacy exception-handling proposal, Binary Format",
     "wasm_spec_steps/Actions": "Appendix, Validation Algorithm",
     "wasm_spec_rules/LinkRules": "Validation, Modules, Imports, Exports and Start Function",
-    "wasm_laws_instructions/Laws": "Validation, Modules",
+    "wasm_laws_soundness/TypingLaws": "Validation, Modules",
 }
 
 
@@ -261,7 +261,7 @@ def rows_of_file(counter, module, items, sections):
 def chapters_of(statement):
     """The files of each chapter, each with its items of the theorem."""
     items = statement.items(0)
-    by_rules = statement.closure([("item", statement.specs.modules["wasm_laws_instructions", "Modules"].items["IsValidByRules"])])
+    by_rules = statement.closure([("item", statement.specs.modules["wasm_laws_soundness", "ModulesByRules"].items["IsValidByRules"])])
     found, left = [], set(items)
     apart = {it for it in items if it.module.crate == "wasm_spec_steps" and ("item", it.key) not in by_rules}
     for title, about, names in CHAPTERS:

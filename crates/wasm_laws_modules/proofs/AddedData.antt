@@ -17,7 +17,7 @@ use Rattle.wasm_spec_rules.proofs.Verdicts.{Verdict, verdict_as}
 use Rattle.wasm_spec_validity.specs.WasmSpecSteps.Meanings.{address}
 use Rattle.wasm_laws_core.specs.WasmValidatorTypes.Spaces.{Spaces}
 use Rattle.wasm_laws_core.specs.ModuleParts.{spaces_of}
-use Rattle.wasm_laws_contexts.specs.ListedTypes.{types_declare}
+use Rattle.wasm_laws_core.specs.ListedTypes.{types_declare}
 use Rattle.wasm_spec_validity.specs.Typing.{IsConstant, IsTypedDataMode, IsTypedData}
 use Rattle.wasm_spec_validity.specs.Modules.{Numbering, number_at, context_of, imported_globals}
 use Rattle.wasm_validator_items.specs.Entries.{add_data, may_be_stored, is_offset}

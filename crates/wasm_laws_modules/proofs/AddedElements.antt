@@ -37,7 +37,7 @@ use Rattle.wasm_validator_resources.specs.Answers.{world}
 use Rattle.wasm_laws_core.specs.WasmValidatorTypes.Spaces.{Spaces}
 use Rattle.wasm_laws_core.specs.ModuleParts.{listed, listed_table, listed_element, spaces_of}
 use Rattle.wasm_laws_core.proofs.AddedItems.{for_each, each_changed}
-use Rattle.wasm_laws_contexts.specs.ListedTypes.{types_declare}
+use Rattle.wasm_laws_core.specs.ListedTypes.{types_declare}
 use Rattle.wasm_spec_validity.specs.Typing.{IsConstant, IsTypedElementMode, AreTypedItems, IsTypedElement}
 use Rattle.wasm_spec_validity.specs.Modules.{Numbering, number_at, context_of, imported_globals}
 use Rattle.wasm_validator_items.specs.Entries.{listed_items_type, is_constant_of, is_offset, are_items, may_be_placed, add_element}

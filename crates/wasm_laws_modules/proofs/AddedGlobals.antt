@@ -27,7 +27,7 @@ use Rattle.wasm_laws_core.proofs.WasmValidatorChecks.ItemTests.{globals_are_deci
 use Rattle.wasm_laws_core.specs.WasmValidatorTypes.Spaces.{Spaces}
 use Rattle.wasm_laws_core.specs.ModuleParts.{listed_global, spaces_of}
 use Rattle.wasm_laws_core.proofs.AddedItems.{for_each, each_changed}
-use Rattle.wasm_laws_contexts.specs.ListedTypes.{types_declare}
+use Rattle.wasm_laws_core.specs.ListedTypes.{types_declare}
 use Rattle.wasm_spec_validity.specs.Typing.{IsTypedGlobal}
 use Rattle.wasm_spec_validity.specs.Modules.{Numbering, number_at, context_of, imported_globals}
 use Rattle.wasm_validator_items.specs.Entries.{add_global_entry, is_constant_of}

@@ -18,12 +18,12 @@ use Rattle.wasm_laws_core.specs.WasmValidatorCanonical.Sections.{StandsFor}
 use Rattle.wasm_laws_core.specs.WasmValidatorChecks.Laws.{Stand}
 use Rattle.wasm_laws_core.specs.WasmValidatorTypes.Spaces.{Spaces}
 use Rattle.wasm_laws_core.specs.ModuleParts.{listed, listed_element, spaces_of}
-use Rattle.wasm_laws_contexts.specs.WasmValidatorCoreResources.ModuleContexts.{exact_flags}
-use Rattle.wasm_laws_contexts.specs.WasmValidatorCoreResources.IndexContexts.{id_of}
+use Rattle.wasm_laws_core.specs.WasmValidatorCoreResources.ModuleContexts.{exact_flags}
+use Rattle.wasm_laws_core.specs.WasmValidatorCoreResources.IndexContexts.{id_of}
 use Rattle.wasm_validator_resources.specs.Answers.{same_index}
-use Rattle.wasm_laws_contexts.specs.ListedTypes.{types_declare}
-use Rattle.wasm_laws_contexts.specs.TypeNumbers.{identity_at}
-use Rattle.wasm_laws_contexts.proofs.IndexRanges.{ref-agrees, tables-agree, globals-agree, zip-length}
+use Rattle.wasm_laws_core.specs.ListedTypes.{types_declare}
+use Rattle.wasm_laws_core.specs.TypeNumbers.{identity_at}
+use Rattle.wasm_laws_core.proofs.IndexRanges.{ref-agrees, tables-agree, globals-agree, zip-length}
 use Rattle.wasm_spec_validity.specs.Modules.{Numbering, number_at, context_of}
 use Rattle.wasm_spec_validity.proofs.RenamedBodies.{typed_bodies_are_renamed}
 use Rattle.wasm_laws_modules.proofs.ConstantsOverNumbers.{renamed_types}

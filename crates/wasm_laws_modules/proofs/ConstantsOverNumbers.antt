@@ -22,16 +22,16 @@ use Rattle.wasm_spec_validity.specs.WasmSpecSteps.ConstantRules.{IsConstantExpre
 use Rattle.wasm_spec_validity.specs.WasmSpecSteps.Machine.{map_state}
 use Rattle.wasm_spec_validity.specs.WasmSpecSteps.Renaming.{Renames}
 use Rattle.wasm_spec_validity.specs.WasmSpecSteps.Steps.{start}
-use Rattle.wasm_laws_contexts.specs.WasmValidatorCoreResources.IndexContexts.{id_of}
+use Rattle.wasm_laws_core.specs.WasmValidatorCoreResources.IndexContexts.{id_of}
 use Rattle.wasm_validator_resources.specs.Answers.{world}
 use Rattle.wasm_laws_core.specs.WasmValidatorTypes.Spaces.{Spaces}
 use Rattle.wasm_laws_core.specs.ModuleParts.{listed}
-use Rattle.wasm_laws_contexts.specs.WasmValidatorCoreResources.ModuleContexts.{exact_flags, numbers_from}
+use Rattle.wasm_laws_core.specs.WasmValidatorCoreResources.ModuleContexts.{exact_flags, numbers_from}
 use Rattle.wasm_validator_items.specs.Expressions.{around_constants, behind_expression}
 use Rattle.wasm_validator_items.proofs.ConstantBytes.{are_found}
-use Rattle.wasm_laws_contexts.specs.ListedTypes.{types_declare}
-use Rattle.wasm_laws_contexts.specs.TypeNumbers.{identity_at}
-use Rattle.wasm_laws_contexts.proofs.IndexRanges.{val-agrees, globals-agree, zip-length}
+use Rattle.wasm_laws_core.specs.ListedTypes.{types_declare}
+use Rattle.wasm_laws_core.specs.TypeNumbers.{identity_at}
+use Rattle.wasm_laws_core.proofs.IndexRanges.{val-agrees, globals-agree, zip-length}
 use Rattle.wasm_spec_validity.specs.Modules.{Numbering, number_at, context_of, imported_globals}
 use Rattle.wasm_spec_validity.specs.OtherContexts.{elsewhere, ConstantsAreRenamed}
 use Rattle.wasm_spec_validity.specs.Typing.{from_on, seeing, around, IsConstant}

@@ -14,13 +14,13 @@ use Rattle.wasm_readers_types.specs.WasmReadersValues.declared.indices.UnpackedI
 use Rattle.wasm_readers_types.specs.WasmReadersValues.declared.indices.UnpackedIndex.TheVariants.{Module}
 use Rattle.wasm_validator_type_list.proofs.Lookups.{group_found}
 use Rattle.wasm_spec_validity.specs.WasmSpecSteps.Renaming.{Renames}
-use Rattle.wasm_laws_contexts.specs.WasmValidatorCoreResources.IndexContexts.{id_of, same_index}
-use Rattle.wasm_laws_contexts.specs.ListedTypes.{number_in, id_in, types_declare}
-use Rattle.wasm_laws_contexts.specs.TypeNumbers.{AreNumbered, same_number, identity_or, identity_at}
-use Rattle.wasm_laws_contexts.proofs.NumbersBelow.{count_below, count-most, count-more}
-use Rattle.wasm_laws_contexts.proofs.ListedTypes.{number-is}
-use Rattle.wasm_laws_contexts.proofs.NumbersAndIds.{alike, other_number}
-use Rattle.wasm_laws_contexts.proofs.ShortChains.{no_value, below-renamed}
+use Rattle.wasm_laws_core.specs.WasmValidatorCoreResources.IndexContexts.{id_of, same_index}
+use Rattle.wasm_laws_core.specs.ListedTypes.{number_in, id_in, types_declare}
+use Rattle.wasm_laws_core.specs.TypeNumbers.{AreNumbered, same_number, identity_or, identity_at}
+use Rattle.wasm_laws_core.proofs.NumbersBelow.{count_below, count-most, count-more}
+use Rattle.wasm_laws_core.proofs.ListedTypes.{number-is}
+use Rattle.wasm_laws_core.proofs.NumbersAndIds.{alike, other_number}
+use Rattle.wasm_laws_core.proofs.ShortChains.{no_value, below-renamed}
 use Rattle.wasm_laws_modules.proofs.Entries.{EachDeclares, entries, length-entries, found, none_found}
 use Rattle.wasm_laws_modules.proofs.Numbers.{level, numbered, not_numbered, StepsDown, steps_down, rank, rank_down, few}
 

@@ -23,13 +23,13 @@ use Rattle.wasm_laws_core.specs.WasmValidatorCanonical.Groups.{AreValid}
 use Rattle.wasm_laws_core.specs.WasmValidatorCanonical.Sections.{StandsFor}
 use Rattle.wasm_laws_core.proofs.WasmValidatorCanonical.LoneTypes.{valid_alone, alone_before, alone_same}
 use Rattle.wasm_spec_validity.specs.WasmSpecSteps.Renaming.{Renames}
-use Rattle.wasm_laws_contexts.specs.WasmValidatorCoreResources.IndexContexts.{id_of, same_index}
-use Rattle.wasm_laws_contexts.specs.ListedTypes.{id_in, types_declare}
-use Rattle.wasm_laws_contexts.specs.TypeNumbers.{AreNumbered, same_number, identity_or, identity_at}
-use Rattle.wasm_laws_contexts.proofs.AcceptedTypeNumbers.{all_of, accepted_types_are_numbered}
-use Rattle.wasm_laws_contexts.proofs.IndexRanges.{zip_at, zip-length}
-use Rattle.wasm_laws_contexts.proofs.ListedTypes.{number-is}
-use Rattle.wasm_laws_contexts.proofs.NumbersAndIds.{place_of, contains_at}
+use Rattle.wasm_laws_core.specs.WasmValidatorCoreResources.IndexContexts.{id_of, same_index}
+use Rattle.wasm_laws_core.specs.ListedTypes.{id_in, types_declare}
+use Rattle.wasm_laws_core.specs.TypeNumbers.{AreNumbered, same_number, identity_or, identity_at}
+use Rattle.wasm_laws_core.proofs.AcceptedTypeNumbers.{all_of, accepted_types_are_numbered}
+use Rattle.wasm_laws_core.proofs.IndexRanges.{zip_at, zip-length}
+use Rattle.wasm_laws_core.proofs.ListedTypes.{number-is}
+use Rattle.wasm_laws_core.proofs.NumbersAndIds.{place_of, contains_at}
 use Rattle.wasm_laws_modules.proofs.Depths.{ancestors, fewer}
 use Rattle.wasm_laws_modules.proofs.Entries.{EachDeclares, entries}
 use Rattle.wasm_laws_modules.proofs.Numbers.{first_of_all, numbers_are_right}

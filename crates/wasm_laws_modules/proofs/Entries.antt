@@ -6,7 +6,7 @@ use Rattle.wasm_spec.specs.Syntax.{Sub, map_sub}
 use Rattle.wasm_spec.specs.Trees.{DefType, declared}
 use Rattle.wasm_spec_rules.specs.Contexts.{declares_at}
 use Rattle.wasm_spec_rules.specs.Worlds.{declared_in}
-use Rattle.wasm_laws_contexts.proofs.NumbersAndIds.{not_true}
+use Rattle.wasm_laws_core.proofs.NumbersAndIds.{not_true}
 
 -- each type of a list declares something
 abbrev pub EachDeclares : List DefType → Type 0

@@ -5,8 +5,8 @@ use Rattle.wasm_spec.specs.Syntax.{Extern, func_extern, func_exact_extern, table
 use Rattle.wasm_spec.specs.BinaryModules.{Import}
 use Rattle.wasm_spec_rules.specs.Contexts.{exact_in, is_exact}
 use Rattle.wasm_spec_rules.specs.IndexSpaces.{imported, functions_in}
-use Rattle.wasm_laws_contexts.specs.WasmValidatorCoreResources.ModuleContexts.{exact_flags}
-use Rattle.wasm_laws_contexts.proofs.ModuleOverIds.{defined-exact}
+use Rattle.wasm_laws_core.specs.WasmValidatorCoreResources.ModuleContexts.{exact_flags}
+use Rattle.wasm_laws_core.proofs.ModuleOverIds.{defined-exact}
 
 import-exact : (e : Extern ℕ) (xs : List ℕ) (bs : List Bool) → exact_flags (functions_in e ++ xs) (exact_in e ++ bs) ≡ exact_in e ++ exact_flags xs bs
 import-exact (func_extern x) xs bs = refl

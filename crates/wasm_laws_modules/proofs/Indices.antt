@@ -8,8 +8,8 @@ use Rattle.wasm_validator_type_list.proofs.Lookups.{group_found}
 use Rattle.wasm_laws_core.specs.WasmValidatorCanonical.Indices.{use_of_index}
 use Rattle.wasm_laws_core.specs.WasmValidatorCanonical.Sections.{StandsFor}
 use Rattle.wasm_laws_core.specs.ModuleParts.{listed}
-use Rattle.wasm_laws_contexts.specs.TypeNumbers.{identity_at}
-use Rattle.wasm_laws_contexts.proofs.IndexRanges.{zip_at}
+use Rattle.wasm_laws_core.specs.TypeNumbers.{identity_at}
+use Rattle.wasm_laws_core.proofs.IndexRanges.{zip_at}
 use Rattle.wasm_laws_modules.proofs.DistinctTypeIds.{AreRenamed}
 
 pub index-back : (c : Bool) (us : List DefType) (sids : List ℕ) (types distinct : List DefType) (n : DefType → ℕ) → AllZip (StandsFor c us) sids types → (renamed : AreRenamed us sids types distinct n)

@@ -1,5 +1,4 @@
 pub use Rattle.wasm_laws_core.proofs as WasmLawsCore
-pub use Rattle.wasm_laws_contexts.proofs as WasmLawsContexts
 pub use Rattle.wasm_validator_items.proofs.EntryRenamings as RenamedEntries
 pub mod Entries
 pub mod Depths

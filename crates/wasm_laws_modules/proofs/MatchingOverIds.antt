@@ -15,10 +15,10 @@ use Rattle.wasm_validator_resources.specs.Answers.{world}
 use Rattle.wasm_spec_validity.proofs.FirstAppearances.{types_are_numbered}
 use Rattle.wasm_laws_core.specs.ModuleParts.{listed}
 use Rattle.wasm_validator_items.specs.Machine as machine
-use Rattle.wasm_laws_contexts.specs.ListedTypes.{types_declare}
-use Rattle.wasm_laws_contexts.specs.TypeNumbers.{AreNumbered, same_number, identity_at}
-use Rattle.wasm_laws_contexts.proofs.AcceptedTypeNumbers.{accepted_types_are_numbered}
-use Rattle.wasm_laws_contexts.proofs.IndexRanges.{ref-agrees}
+use Rattle.wasm_laws_core.specs.ListedTypes.{types_declare}
+use Rattle.wasm_laws_core.specs.TypeNumbers.{AreNumbered, same_number, identity_at}
+use Rattle.wasm_laws_core.proofs.AcceptedTypeNumbers.{accepted_types_are_numbered}
+use Rattle.wasm_laws_core.proofs.IndexRanges.{ref-agrees}
 use Rattle.wasm_laws_modules.specs.Contexts.{ReferencesMatchOverIds}
 use Rattle.wasm_laws_modules.proofs.ConstantsOverNumbers.{renamed_types}
 use Rattle.wasm_laws_modules.proofs.Entries.{entries}

@@ -15,9 +15,9 @@ use Rattle.wasm_spec_rules.specs.Attempts.{◌>>=◌}
 use Rattle.wasm_spec_rules.specs.Contexts.{Context}
 use Rattle.wasm_spec_rules.specs.Worlds.{declared_in, world_of}
 use Rattle.wasm_spec_validity.proofs.WasmSpecSteps.WorldsDecided.{worlds_are_right}
-use Rattle.wasm_laws_contexts.specs.TypeNumbers.{AreNumbered, same_number}
-use Rattle.wasm_laws_contexts.proofs.NumbersBelow.{count_below, count-most, count-more}
-use Rattle.wasm_laws_contexts.proofs.NumbersAndIds.{other_number, place_of, contains_at, value_of}
+use Rattle.wasm_laws_core.specs.TypeNumbers.{AreNumbered, same_number}
+use Rattle.wasm_laws_core.proofs.NumbersBelow.{count_below, count-most, count-more}
+use Rattle.wasm_laws_core.proofs.NumbersAndIds.{other_number, place_of, contains_at, value_of}
 use Rattle.wasm_laws_modules.proofs.Entries.{EachDeclares, entries, length-entries, found, none_found}
 
 -- a value behind a map

@@ -14,8 +14,8 @@ use Rattle.wasm_spec_rules.specs.Contexts.{AreFirst}
 use Rattle.wasm_spec_rules.specs.IndexSpaces.{nowhere, type_at, ref_over, IsRefInRange}
 use Rattle.wasm_spec_rules.specs.Worlds.{declared_in}
 use Rattle.wasm_validator_type_list.proofs.Lookups.{group_found}
-use Rattle.wasm_laws_contexts.specs.TypeNumbers.{AreNumbered, same_number}
-use Rattle.wasm_laws_contexts.proofs.NumbersAndIds.{place_of, contains_at}
+use Rattle.wasm_laws_core.specs.TypeNumbers.{AreNumbered, same_number}
+use Rattle.wasm_laws_core.proofs.NumbersAndIds.{place_of, contains_at}
 use Rattle.wasm_laws_modules.proofs.Entries.{entries}
 use Rattle.wasm_laws_modules.proofs.Numbers.{from_map, first_of_all, each, numbered}
 

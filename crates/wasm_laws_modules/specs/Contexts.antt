@@ -20,7 +20,7 @@ use Rattle.wasm_laws_core.specs.WasmValidatorChecks.Laws.{Stand}
 use Rattle.wasm_validator_resources.specs.Answers.{world}
 use Rattle.wasm_laws_core.specs.WasmValidatorTypes.Spaces.{Spaces}
 use Rattle.wasm_laws_core.specs.ModuleParts.{listed, listed_global}
-use Rattle.wasm_laws_contexts.specs.ListedTypes.{types_declare}
+use Rattle.wasm_laws_core.specs.ListedTypes.{types_declare}
 use Rattle.wasm_spec_validity.specs.Typing.{IsConstant}
 use Rattle.wasm_spec_validity.specs.Modules.{Numbering, number_at, context_of, imported_globals}
 use Rattle.wasm_validator_items.specs.Machine as machine

@@ -1,5 +1,4 @@
 pub use Rattle.wasm_laws_core.specs as WasmLawsCore
-pub use Rattle.wasm_laws_contexts.specs as WasmLawsContexts
 pub use Rattle.wasm_validator_items.specs.Maps
 pub use Rattle.wasm_validator_items.specs.OnePassSections
 pub mod Contexts

@@ -17,7 +17,7 @@ use Rattle.wasm_laws_core.specs.WasmValidatorTypes.Spaces.{Spaces}
 use Rattle.wasm_laws_core.specs.WasmValidatorCore.Answers.{TypesSoFar}
 pub use Rattle.wasm_laws_core.specs.Lists.{up_to_tables, up_to_memories, up_to_tags}
 use Rattle.wasm_laws_core.specs.Lists.{add_imports, add_functions, add_memories, add_tags, add_exports}
-use Rattle.wasm_laws_contexts.specs.ListedTypes.{types_declare}
+use Rattle.wasm_laws_core.specs.ListedTypes.{types_declare}
 use Rattle.wasm_validator_items.specs.Entries.{add_table_entry, add_global_entry, add_element, add_data}
 use Rattle.wasm_validator_items.specs.Maps.{map_table_entry, map_global_entry, map_element}
 

@@ -35,9 +35,9 @@ use Rattle.wasm_validator_types.specs.Spaces.{Spaces}
 use Rattle.wasm_validator_states.specs.WasmValidatorSections.WasmValidatorChecks.Items.{is_ref_in_range}
 use Rattle.wasm_validator_states.specs.WasmValidatorSections.WasmValidatorCore.Answers.{TypesSoFar}
 use Rattle.wasm_validator_states.specs.WasmValidatorSections.WasmLawsCore.ModuleParts.{listed, listed_table, listed_global}
-use Rattle.wasm_validator_states.specs.WasmValidatorSections.WasmLawsContexts.ListedTypes.{types_declare}
-use Rattle.wasm_validator_states.specs.WasmValidatorSections.WasmLawsContexts.WasmValidatorCoreResources.IndexContexts.{id_of}
-use Rattle.wasm_validator_states.specs.WasmValidatorSections.WasmLawsContexts.WasmValidatorCoreResources.ModuleContexts.{exact_flags, numbers_from}
+use Rattle.wasm_validator_states.specs.WasmValidatorSections.WasmLawsCore.ListedTypes.{types_declare}
+use Rattle.wasm_validator_states.specs.WasmValidatorSections.WasmLawsCore.WasmValidatorCoreResources.IndexContexts.{id_of}
+use Rattle.wasm_validator_states.specs.WasmValidatorSections.WasmLawsCore.WasmValidatorCoreResources.ModuleContexts.{exact_flags, numbers_from}
 use Rattle.wasm_validator_states.specs.WasmValidatorSections.WasmLawsModules.Contexts.{ShowsConstants}
 use Rattle.wasm_validator_states.specs.WasmValidatorSections.WasmLawsModules.Maps.{map_items}
 use Rattle.wasm_validator_states.specs.WasmValidatorSections.Entries.{is_constant_of, is_constant_or_none, is_offset, are_items, may_be_placed, may_be_stored}

@@ -32,7 +32,7 @@ use Rattle.wasm_validator_states.specs.WasmValidatorSections.WasmValidatorCore.A
 use Rattle.wasm_validator_states.specs.WasmValidatorSections.WasmLawsCore.ModuleParts.{listed}
 use Rattle.wasm_validator_states.specs.WasmValidatorSections.WasmLawsModules.Contexts.{HasOwnIds, AreModuleTypes}
 use Rattle.wasm_validator_states.proofs.WasmValidatorSections.WasmLawsCore.AddedItems.{for_each}
-use Rattle.wasm_validator_states.proofs.WasmValidatorSections.WasmLawsContexts.IndexRanges.{tables-agree, globals-agree, zip-length}
+use Rattle.wasm_validator_states.proofs.WasmValidatorSections.WasmLawsCore.IndexRanges.{tables-agree, globals-agree, zip-length}
 use Rattle.wasm_validator_states.proofs.WasmValidatorSections.WasmLawsModules.SectionTypes.{sections_give_module_types}
 use Rattle.wasm_laws_sections.specs.StateInvariants.{AreHeld, HasTypes, ShowsIndices, ShowsTables, ShowsGlobals, Shows}
 

@@ -26,7 +26,7 @@ use Rattle.wasm_validator_types.specs.Spaces.{Spaces}
 use Rattle.wasm_validator_states.specs.WasmValidatorSections.WasmValidatorCore.Answers.{TypesSoFar}
 use Rattle.wasm_validator_states.specs.WasmValidatorSections.WasmValidatorCore.Items.{is_startable, is_data_count}
 use Rattle.wasm_validator_states.specs.WasmValidatorSections.WasmValidatorReferences.References.{section_names, names_of_globals}
-use Rattle.wasm_validator_states.specs.WasmValidatorSections.WasmLawsContexts.ListedTypes.{types_declare}
+use Rattle.wasm_validator_states.specs.WasmValidatorSections.WasmLawsCore.ListedTypes.{types_declare}
 use Rattle.wasm_validator_states.specs.WasmValidatorSections.WasmLawsCore.ModuleParts.{listed_table, listed_global, listed_element}
 use Rattle.wasm_validator_states.specs.WasmValidatorSections.WasmLawsModules.Contexts.{ShowsConstants}
 use Rattle.wasm_validator_states.specs.WasmValidatorSections.Entries.{may_be_stored, add_data}

@@ -34,11 +34,11 @@ use Rattle.wasm_spec_instructions.proofs.Attempts.{no, the_same, absent}
 use Rattle.wasm_spec_instructions.proofs.OperandFits.{match-itself}
 use Rattle.wasm_spec_instructions.proofs.FixedTypeRules.{fixed_types_have_their_rules}
 use Rattle.wasm_spec_instructions.proofs.Orders.{worlds_are_in_order}
-use Rattle.wasm_laws_values.specs.Values.{Value, i32_value, other, Instance, Definition, defined, hosted, Function, Store, signature_in, is_apart, is_i32, is_other, no_values, and_value}
-use Rattle.wasm_laws_values.specs.Outcomes.{Answer, gives, Primitives}
-use Rattle.wasm_laws_values.specs.StoreValidity.{Grows, Reaches, InstanceFits, IsTypedCode, IsTypedFunction, StoreFits, IsKept, gives_them, may_fail, FunctionsMatch}
-use Rattle.wasm_laws_values.proofs.Values.{grows-refl}
-use Rattle.wasm_laws_values.proofs.Outcomes.{function-grows, exception-grows}
+use Rattle.wasm_laws_soundness.specs.Values.{Value, i32_value, other, Instance, Definition, defined, hosted, Function, Store, signature_in, is_apart, is_i32, is_other, no_values, and_value}
+use Rattle.wasm_laws_soundness.specs.Outcomes.{Answer, gives, Primitives}
+use Rattle.wasm_laws_soundness.specs.StoreValidity.{Grows, Reaches, InstanceFits, IsTypedCode, IsTypedFunction, StoreFits, IsKept, gives_them, may_fail, FunctionsMatch}
+use Rattle.wasm_laws_soundness.proofs.Values.{grows-refl}
+use Rattle.wasm_laws_soundness.proofs.Outcomes.{function-grows, exception-grows}
 use Rattle.wasm_laws_soundness.specs.Promises.{it_ends, KeepsPromises}
 use Rattle.wasm_laws_soundness.specs.Example.{bits_of, number, of_two, calculated, given, with_contents, row_at, number_in, written, stored, accessed, made, read_as, content_at, structured, computed, small, declared_there, small_world, product, factorial_code, around_it, its_instance, factorial, its_store, ExampleWorks}
 

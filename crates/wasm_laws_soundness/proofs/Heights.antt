@@ -28,11 +28,11 @@ use Rattle.wasm_spec_instructions.proofs.LocalSets.{Covers, covers-more, pops-se
 use Rattle.wasm_spec_instructions.proofs.RuleCompleteness.{over, condition, condition_types, checks-run, handler-holds, handler-finds, Led, check-complete}
 use Rattle.wasm_spec_instructions.proofs.ScopeGrowth.{proper}
 use Rattle.wasm_spec_instructions.proofs.OutermostFrame.{outer}
-use Rattle.wasm_laws_values.specs.Values.{Value, i32_value, Instance, Exception, Store, HaveTypes, no_values}
-use Rattle.wasm_laws_values.specs.Outcomes.{State, Exit, branches, throws, out_of_steps, Outcome, falls_through, leaves, Primitives, cut, with_top, holding, label as labelled_by, next, handed, in_block, in_either, catching}
-use Rattle.wasm_laws_values.specs.StoreValidity.{Carries, IsTypedException, Fits, branching, returning, throwing, calling, rethrowing, delegating, trapping, waiting, IsPromised, falling, leaving}
-use Rattle.wasm_laws_values.proofs.Values.{long, above-match, types-append, types-length, types-grow, cut-fits}
-use Rattle.wasm_laws_values.proofs.Outcomes.{fits-with, fits-now, label-promised}
+use Rattle.wasm_laws_soundness.specs.Values.{Value, i32_value, Instance, Exception, Store, HaveTypes, no_values}
+use Rattle.wasm_laws_soundness.specs.Outcomes.{State, Exit, branches, throws, out_of_steps, Outcome, falls_through, leaves, Primitives, cut, with_top, holding, label as labelled_by, next, handed, in_block, in_either, catching}
+use Rattle.wasm_laws_soundness.specs.StoreValidity.{Carries, IsTypedException, Fits, branching, returning, throwing, calling, rethrowing, delegating, trapping, waiting, IsPromised, falling, leaving}
+use Rattle.wasm_laws_soundness.proofs.Values.{long, above-match, types-append, types-length, types-grow, cut-fits}
+use Rattle.wasm_laws_soundness.proofs.Outcomes.{fits-with, fits-now, label-promised}
 use Rattle.wasm_laws_soundness.specs.Interpreter.{does, step, with_signature, enter, exec, handle, run}
 use Rattle.wasm_laws_soundness.specs.Laws.{AreSound}
 use Rattle.wasm_laws_soundness.specs.Heights.{first_of, rest_of, Begins, Takes, by_tag, of_any_tag, Comes, starts, behind, within, turns, within_if, within_then, within_else, within_try, within_delegating, catches, Handles, in_last, in_first, in_later, HeightsAreAsSeen, RunsComeToTheEnd}

@@ -14,13 +14,13 @@ use Rattle.wasm_spec_steps.specs.Meanings.{block_signature}
 use Rattle.wasm_spec_instructions.specs.Code.{Code}
 use Rattle.wasm_spec_instructions.specs.ValueTypes.{vals}
 use Rattle.wasm_spec_instructions.proofs.Attempts.{the_same}
-use Rattle.wasm_laws_instructions.specs.Bodies.{IsTypedBody}
-use Rattle.wasm_laws_instructions.proofs.Bodies.{bodies_are_typed}
-use Rattle.wasm_laws_instructions.proofs.NumberedContexts.{is_in_order, has_no_sharing}
-use Rattle.wasm_laws_values.specs.Values.{Value, Instance, Store, HaveTypes, no_values}
-use Rattle.wasm_laws_values.specs.Outcomes.{State, Primitives, entered}
-use Rattle.wasm_laws_values.specs.StoreValidity.{IsTypedCode, IsTypedFunction}
-use Rattle.wasm_laws_values.proofs.Values.{grows-refl, start-fits}
+use Rattle.wasm_laws_soundness.specs.BodiesByRules.{IsTypedBody}
+use Rattle.wasm_laws_soundness.proofs.BodiesByRules.{bodies_are_typed}
+use Rattle.wasm_laws_soundness.proofs.NumberedContexts.{is_in_order, has_no_sharing}
+use Rattle.wasm_laws_soundness.specs.Values.{Value, Instance, Store, HaveTypes, no_values}
+use Rattle.wasm_laws_soundness.specs.Outcomes.{State, Primitives, entered}
+use Rattle.wasm_laws_soundness.specs.StoreValidity.{IsTypedCode, IsTypedFunction}
+use Rattle.wasm_laws_soundness.proofs.Values.{grows-refl, start-fits}
 use Rattle.wasm_laws_soundness.specs.Laws.{AreSound}
 use Rattle.wasm_laws_soundness.specs.Modules.{IsCodeOf, IsInstance, called_with, context_in}
 use Rattle.wasm_laws_soundness.specs.Heights.{Comes, AreHeights, FunctionsHaveTheirHeights, ValidModulesHaveTheirHeights}

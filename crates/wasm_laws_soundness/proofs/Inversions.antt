@@ -39,8 +39,8 @@ use Rattle.wasm_spec_instructions.specs.Scopes.{Scope, types_in, AllHold}
 use Rattle.wasm_spec_instructions.specs.Rules.{sets_of, Rule, plain_rule, ending_rule, measuring_rule, comparing_rule, converting_rule, describing_exactly_rule, describing_rule}
 use Rattle.wasm_spec_instructions.proofs.Attempts.{no, the_same, absent, bind-gives, passes-gives, and-both, with_last}
 use Rattle.wasm_spec_instructions.proofs.OperandFits.{vals-append, true-match}
-use Rattle.wasm_laws_values.specs.Values.{signature_in}
-use Rattle.wasm_laws_values.proofs.Values.{length-vals}
+use Rattle.wasm_laws_soundness.specs.Values.{signature_in}
+use Rattle.wasm_laws_soundness.proofs.Values.{length-vals}
 use Rattle.wasm_laws_soundness.specs.Roles.{operand_count}
 
 pub mapped : {A X : Type 0} (f : A → X) (o : Option A) (x : X) → option_map f o ≡ Some x → (a : A) × (o ≡ Some a) × (x ≡ f a)

@@ -1,3 +1,10 @@
+pub mod BodiesByRules
+pub mod Constants
+pub mod ModuleConstants
+pub mod NumberedContexts
+pub mod ModulesByRules
+pub mod Values
+pub mod Outcomes
 pub mod Inversions
 pub mod DescriptorsAndHandlers
 pub mod Steps

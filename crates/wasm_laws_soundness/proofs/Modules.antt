@@ -16,11 +16,11 @@ use Rattle.wasm_spec_instructions.specs.ValueTypes.{vals}
 use Rattle.wasm_spec_instructions.specs.Expressions.{body_scope}
 use Rattle.wasm_spec_instructions.proofs.Attempts.{the_same, absent}
 use Rattle.wasm_spec_instructions.proofs.CodeUniqueness.{code_is_unique}
-use Rattle.wasm_laws_instructions.specs.Bodies.{body_in, IsTypedBody}
-use Rattle.wasm_laws_values.specs.Values.{Value, Instance, Definition, defined, hosted, Function, Store, signature_in, HaveTypes}
-use Rattle.wasm_laws_values.specs.Outcomes.{State, falls_through, Outcome, Primitives}
-use Rattle.wasm_laws_values.specs.StoreValidity.{InstanceFits, IsTypedCode, IsTypedFunction, Fits, IsPromised, falling, leaving}
-use Rattle.wasm_laws_values.proofs.Values.{grows-refl}
+use Rattle.wasm_laws_soundness.specs.BodiesByRules.{body_in, IsTypedBody}
+use Rattle.wasm_laws_soundness.specs.Values.{Value, Instance, Definition, defined, hosted, Function, Store, signature_in, HaveTypes}
+use Rattle.wasm_laws_soundness.specs.Outcomes.{State, falls_through, Outcome, Primitives}
+use Rattle.wasm_laws_soundness.specs.StoreValidity.{InstanceFits, IsTypedCode, IsTypedFunction, Fits, IsPromised, falling, leaving}
+use Rattle.wasm_laws_soundness.proofs.Values.{grows-refl}
 use Rattle.wasm_laws_soundness.specs.Interpreter.{invokes, run}
 use Rattle.wasm_laws_soundness.specs.Laws.{AreSound}
 use Rattle.wasm_laws_soundness.specs.Modules.{IsCodeOf, IsFunctionOf, of_host, of_module, IsInstance, called_with, RunsWell}

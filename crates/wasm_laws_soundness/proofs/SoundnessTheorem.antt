@@ -19,11 +19,11 @@ use Rattle.wasm_spec_instructions.specs.Scopes.{Scope, types_in, AllHold}
 use Rattle.wasm_spec_instructions.specs.Sequences.{Opens, Typed, empty_rule, instruction_rule, block_rule, loop_rule, if_rule, if_else_rule, try_table_rule, try_rule, handling_rule, delegating_rule, sequence_rule, frame_rule, subsumption_rule, Handle, last_rule, before_rule}
 use Rattle.wasm_spec_instructions.proofs.Attempts.{the_same, bind-at, passes-gives}
 use Rattle.wasm_spec_instructions.proofs.OperandFits.{vals-append, true-match}
-use Rattle.wasm_laws_values.specs.Values.{Value, exception_at, Instance, Exception, Store, exception_heap, is_exception as is_thrown, HaveTypes, no_values, and_value}
-use Rattle.wasm_laws_values.specs.Outcomes.{State, branches, throws, stuck, Outcome, falls_through, leaves, Primitives, with_top, either, holding, next, label as labelled, again_from, handed, in_block, in_either, catching}
-use Rattle.wasm_laws_values.specs.StoreValidity.{Carries, IsTypedException, Fits, branching, returning, throwing, calling, rethrowing, delegating, trapping, waiting, IsPromised, falling, leaving}
-use Rattle.wasm_laws_values.proofs.Values.{long, types-match, above-match, types-append, types-length, types-grow}
-use Rattle.wasm_laws_values.proofs.Outcomes.{with_top-promised, on_some-promised, either-promised, fits-with, fits-now, promised-since, next-promised, alone, later, lesser, label-promised, in_block-promised, in_either-promised, catching-promised, again_from-promised, handed-promised}
+use Rattle.wasm_laws_soundness.specs.Values.{Value, exception_at, Instance, Exception, Store, exception_heap, is_exception as is_thrown, HaveTypes, no_values, and_value}
+use Rattle.wasm_laws_soundness.specs.Outcomes.{State, branches, throws, stuck, Outcome, falls_through, leaves, Primitives, with_top, either, holding, next, label as labelled, again_from, handed, in_block, in_either, catching}
+use Rattle.wasm_laws_soundness.specs.StoreValidity.{Carries, IsTypedException, Fits, branching, returning, throwing, calling, rethrowing, delegating, trapping, waiting, IsPromised, falling, leaving}
+use Rattle.wasm_laws_soundness.proofs.Values.{long, types-match, above-match, types-append, types-length, types-grow}
+use Rattle.wasm_laws_soundness.proofs.Outcomes.{with_top-promised, on_some-promised, either-promised, fits-with, fits-now, promised-since, next-promised, alone, later, lesser, label-promised, in_block-promised, in_either-promised, catching-promised, again_from-promised, handed-promised}
 use Rattle.wasm_laws_soundness.specs.Interpreter.{Task, does, step, if_tag, caught, with_signature, enter, exec, handle, run}
 use Rattle.wasm_laws_soundness.specs.Laws.{AreSound, Soundness, NeverStuck, FunctionsAreSound, HeightsAreAsTyped}
 use Rattle.wasm_laws_soundness.proofs.Steps.{Sound, invoke-promised, steps}

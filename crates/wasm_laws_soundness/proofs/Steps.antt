@@ -37,11 +37,11 @@ use Rattle.wasm_spec_instructions.proofs.OperandFits.{vals-append, val-through, 
 use Rattle.wasm_spec_instructions.proofs.Names.{instructions_have_their_rules}
 use Rattle.wasm_spec_instructions.proofs.FixedTypeRules.{fixed_types_have_their_rules}
 use Rattle.wasm_spec_instructions.proofs.ContinuationRules.{handles}
-use Rattle.wasm_laws_values.specs.Values.{Value, i32_value, null, function_at, exception_at, other, Instance, Definition, defined, hosted, Function, Store, exception_heap, signature_in, is_of, HasType, is_i32, is_null, is_function, is_exception, is_other, HaveTypes, no_values, and_value}
-use Rattle.wasm_laws_values.specs.Outcomes.{State, branches, throws, calls_in_place, returns, traps, Outcome, falls_through, leaves, Resumed, Primitives, with_top, on_some, on_number, on_one, on_exception, on_function, on_reference, pick, either, on_choice, on_set, holding, writing, pushing, with_store, answered, on_answer, threw, entered, back}
-use Rattle.wasm_laws_values.specs.StoreValidity.{Grows, Reaches, Carries, IsTypedCode, IsTypedFunction, InstanceFits, StoreFits, Fits, branching, returning, throwing, calling, rethrowing, delegating, trapping, waiting, IsPromised, falling, leaving}
-use Rattle.wasm_laws_values.proofs.Values.{long, type-match, types-match, above-match, types-append, grows-refl, types-grow, must_hold, start-fits, get-last}
-use Rattle.wasm_laws_values.proofs.Outcomes.{with_top-promised, on_some-promised, pick-promised, either-promised, on_number-promised, on_one-promised, on_reference-promised, on_choice-promised, on_exception-promised, on_function-promised, func-of_functions, concrete-of_functions, fits-with, fits-now, fits-in, promised-since, lesser, put_on, writing-promised, answered-promised, on_answer-promised, threw-fits, back-fits, cast-has, cast-lacks}
+use Rattle.wasm_laws_soundness.specs.Values.{Value, i32_value, null, function_at, exception_at, other, Instance, Definition, defined, hosted, Function, Store, exception_heap, signature_in, is_of, HasType, is_i32, is_null, is_function, is_exception, is_other, HaveTypes, no_values, and_value}
+use Rattle.wasm_laws_soundness.specs.Outcomes.{State, branches, throws, calls_in_place, returns, traps, Outcome, falls_through, leaves, Resumed, Primitives, with_top, on_some, on_number, on_one, on_exception, on_function, on_reference, pick, either, on_choice, on_set, holding, writing, pushing, with_store, answered, on_answer, threw, entered, back}
+use Rattle.wasm_laws_soundness.specs.StoreValidity.{Grows, Reaches, Carries, IsTypedCode, IsTypedFunction, InstanceFits, StoreFits, Fits, branching, returning, throwing, calling, rethrowing, delegating, trapping, waiting, IsPromised, falling, leaving}
+use Rattle.wasm_laws_soundness.proofs.Values.{long, type-match, types-match, above-match, types-append, grows-refl, types-grow, must_hold, start-fits, get-last}
+use Rattle.wasm_laws_soundness.proofs.Outcomes.{with_top-promised, on_some-promised, pick-promised, either-promised, on_number-promised, on_one-promised, on_reference-promised, on_choice-promised, on_exception-promised, on_function-promised, func-of_functions, concrete-of_functions, fits-with, fits-now, fits-in, promised-since, lesser, put_on, writing-promised, answered-promised, on_answer-promised, threw-fits, back-fits, cast-has, cast-lacks}
 use Rattle.wasm_laws_soundness.specs.Roles as role
 use Rattle.wasm_laws_soundness.specs.Roles.{by_index, by_reference, by_table, role_of, handler_at, operand_count}
 use Rattle.wasm_laws_soundness.specs.Interpreter.{Task, does, invokes, label_for, finish, enter_function, with_function, invoke, invoke_in_place, if_of_type, with_callee, by_cast, is_described, by_description, resumed, step_as, step}

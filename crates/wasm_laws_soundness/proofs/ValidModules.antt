@@ -2,8 +2,8 @@
 use Rattle.std.proofs.Common.{refl, ℕ, nat_eq}
 use Rattle.wasm_spec.proofs.AcceptedSections.{valid_type_section_is_accepted}
 use Rattle.wasm_spec_steps.specs.WasmSpecRules.Worlds.{world_of}
-use Rattle.wasm_laws_instructions.proofs.Bodies.{bodies_are_typed}
-use Rattle.wasm_laws_instructions.proofs.NumberedContexts.{is_in_order, has_no_sharing}
+use Rattle.wasm_laws_soundness.proofs.BodiesByRules.{bodies_are_typed}
+use Rattle.wasm_laws_soundness.proofs.NumberedContexts.{is_in_order, has_no_sharing}
 use Rattle.wasm_laws_soundness.specs.Modules.{context_in, ValidModulesNeverGetStuck}
 use Rattle.wasm_laws_soundness.proofs.Modules.{runs-well}
 use Rattle.wasm_laws_soundness.proofs.Worlds.{functions-match}

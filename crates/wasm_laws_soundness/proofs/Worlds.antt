@@ -24,9 +24,9 @@ use Rattle.wasm_spec_steps.specs.WasmSpecRules.Worlds.{declared_in, is_below, wo
 use Rattle.wasm_spec_instructions.specs.ValueTypes.{vals, Match, none, each, IsInOrder}
 use Rattle.wasm_spec_instructions.proofs.Attempts.{no, the_same, absent, bind-gives, passes-gives}
 use Rattle.wasm_spec_instructions.proofs.OperandFits.{match-itself}
-use Rattle.wasm_laws_instructions.proofs.NumberedContexts.{then_gives, from_map, place_of, contains_at, entries, Entry, entry_of, entry_for, kind-map}
-use Rattle.wasm_laws_values.specs.Values.{signature_in}
-use Rattle.wasm_laws_values.specs.StoreValidity.{FunctionsMatch}
+use Rattle.wasm_laws_soundness.proofs.NumberedContexts.{then_gives, from_map, place_of, contains_at, entries, Entry, entry_of, entry_for, kind-map}
+use Rattle.wasm_laws_soundness.specs.Values.{signature_in}
+use Rattle.wasm_laws_soundness.specs.StoreValidity.{FunctionsMatch}
 use Rattle.wasm_laws_soundness.proofs.Steps.{vals-through}
 
 -- lists and truth values

@@ -23,9 +23,9 @@ use Rattle.wasm_spec_steps.specs.Bodies.{Surroundings}
 use Rattle.wasm_spec_steps.specs.FunctionBodies.{local_taken}
 use Rattle.wasm_spec_steps.specs.Meanings.{exact_if, field_at, unpack_field}
 use Rattle.wasm_spec_instructions.specs.Code.{Code, done, simply, choosing_between}
-use Rattle.wasm_laws_values.specs.Values.{Value, i32_value, other, Instance, defined, Function, Store}
-use Rattle.wasm_laws_values.specs.Outcomes.{State, falls_through, leaves, out_of_steps, Answer, gives, fails, ends, Primitives}
-use Rattle.wasm_laws_values.specs.StoreValidity.{InstanceFits, StoreFits}
+use Rattle.wasm_laws_soundness.specs.Values.{Value, i32_value, other, Instance, defined, Function, Store}
+use Rattle.wasm_laws_soundness.specs.Outcomes.{State, falls_through, leaves, out_of_steps, Answer, gives, fails, ends, Primitives}
+use Rattle.wasm_laws_soundness.specs.StoreValidity.{InstanceFits, StoreFits}
 use Rattle.wasm_laws_soundness.specs.Interpreter.{does, invokes, run}
 use Rattle.wasm_laws_soundness.specs.Laws.{AreSound}
 

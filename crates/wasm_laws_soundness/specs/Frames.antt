@@ -2,8 +2,8 @@
 -- Core Specification 3.0, Execution, Runtime Structure (Stack), and Validation, Instructions (Instruction Sequences).
 use Rattle.std.specs.Prelude.{ℕ, List, ◌++◌}
 use Rattle.wasm_spec_steps.specs.WasmSpecRules.WasmSpec.MatchingTests.{World}
-use Rattle.wasm_laws_values.specs.Values.{Value}
-use Rattle.wasm_laws_values.specs.Outcomes.{State, branches, throws, calls_in_place, rethrows, delegates, returns, traps, out_of_steps, stuck, Outcome, falls_through, leaves, Primitives, holding}
+use Rattle.wasm_laws_soundness.specs.Values.{Value}
+use Rattle.wasm_laws_soundness.specs.Outcomes.{State, branches, throws, calls_in_place, rethrows, delegates, returns, traps, out_of_steps, stuck, Outcome, falls_through, leaves, Primitives, holding}
 use Rattle.wasm_laws_soundness.specs.Interpreter.{Task, run}
 
 -- the same state, with other operands below

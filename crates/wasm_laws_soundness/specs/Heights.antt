@@ -17,9 +17,9 @@ use Rattle.wasm_spec_instructions.specs.ValueTypes.{vals}
 use Rattle.wasm_spec_instructions.specs.Expressions.{body_scope}
 use Rattle.wasm_spec_instructions.specs.Sequences.{Typed}
 use Rattle.wasm_spec_validity.specs.Modules.{IsValidModule}
-use Rattle.wasm_laws_values.specs.Values.{Value, i32_value, Instance, defined, Function, Exception, Store, signature_in, HaveTypes}
-use Rattle.wasm_laws_values.specs.Outcomes.{State, branches, throws, falls_through, leaves, Primitives, cut, holding, label, entered}
-use Rattle.wasm_laws_values.specs.StoreValidity.{StoreFits, Fits}
+use Rattle.wasm_laws_soundness.specs.Values.{Value, i32_value, Instance, defined, Function, Exception, Store, signature_in, HaveTypes}
+use Rattle.wasm_laws_soundness.specs.Outcomes.{State, branches, throws, falls_through, leaves, Primitives, cut, holding, label, entered}
+use Rattle.wasm_laws_soundness.specs.StoreValidity.{StoreFits, Fits}
 use Rattle.wasm_laws_soundness.specs.Interpreter.{does, run}
 use Rattle.wasm_laws_soundness.specs.Promises.{KeepsPromises}
 use Rattle.wasm_laws_soundness.specs.Laws.{AreSound}

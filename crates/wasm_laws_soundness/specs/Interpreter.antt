@@ -14,8 +14,8 @@ use Rattle.wasm_spec_steps.specs.Bodies.{Surroundings}
 use Rattle.wasm_spec_steps.specs.Shapes.{shape_of}
 use Rattle.wasm_spec_steps.specs.Meanings.{resolve_block, block_signature}
 use Rattle.wasm_spec_instructions.specs.Code.{Opening, a_block, a_loop, an_if, a_try, a_try_table, a_catch, a_catch_all, Code, done, simply, enclosing, choosing_between, handling, delegating_to, Handlers, last_handler, catch_before}
-use Rattle.wasm_laws_values.specs.Values.{Value, i32_value, null, function_at, exception_at, Instance, Definition, defined, hosted, Function, Exception, Store, signature_in, is_of}
-use Rattle.wasm_laws_values.specs.Outcomes.{State, branches, throws, calls_in_place, rethrows, delegates, returns, traps, out_of_steps, stuck, Outcome, falls_through, leaves, Resumed, ends, suspends, Primitives, with_top, on_some, on_number, on_one, on_exception, on_function, on_reference, pick, either, on_choice, on_set, holding, writing, next, pushing, with_store, answered, on_answer, label, again_from, handed, in_block, in_either, threw, catching, entered, back}
+use Rattle.wasm_laws_soundness.specs.Values.{Value, i32_value, null, function_at, exception_at, Instance, Definition, defined, hosted, Function, Exception, Store, signature_in, is_of}
+use Rattle.wasm_laws_soundness.specs.Outcomes.{State, branches, throws, calls_in_place, rethrows, delegates, returns, traps, out_of_steps, stuck, Outcome, falls_through, leaves, Resumed, ends, suspends, Primitives, with_top, on_some, on_number, on_one, on_exception, on_function, on_reference, pick, either, on_choice, on_set, holding, writing, next, pushing, with_store, answered, on_answer, label, again_from, handed, in_block, in_either, threw, catching, entered, back}
 use Rattle.wasm_laws_soundness.specs.Roles as role
 use Rattle.wasm_laws_soundness.specs.Roles.{Callee, by_index, by_reference, by_table, Role, role_of, handler_at, operand_count}
 

@@ -7,9 +7,9 @@ use Rattle.wasm_spec_instructions.specs.Code.{Code}
 use Rattle.wasm_spec_instructions.specs.ValueTypes.{ValueType, vals, IsInOrder}
 use Rattle.wasm_spec_instructions.specs.Scopes.{Scope}
 use Rattle.wasm_spec_instructions.specs.Sequences.{Typed}
-use Rattle.wasm_laws_values.specs.Values.{Instance, Function, signature_in}
-use Rattle.wasm_laws_values.specs.Outcomes.{State, stuck, falls_through, leaves, Primitives}
-use Rattle.wasm_laws_values.specs.StoreValidity.{Fits, IsPromised, FunctionsMatch}
+use Rattle.wasm_laws_soundness.specs.Values.{Instance, Function, signature_in}
+use Rattle.wasm_laws_soundness.specs.Outcomes.{State, stuck, falls_through, leaves, Primitives}
+use Rattle.wasm_laws_soundness.specs.StoreValidity.{Fits, IsPromised, FunctionsMatch}
 use Rattle.wasm_laws_soundness.specs.Interpreter.{does, invokes, run}
 use Rattle.wasm_laws_soundness.specs.Promises.{KeepsPromises}
 

@@ -1,3 +1,10 @@
+pub mod BodiesByRules
+pub mod ModulesByRules
+pub mod TypingLaws
+pub mod Values
+pub mod Outcomes
+pub mod StoreValidity
+pub mod ValueLaws
 pub mod Roles
 pub mod Interpreter
 pub mod Promises

@@ -18,10 +18,10 @@ use Rattle.wasm_spec_steps.specs.Sequences.{Are}
 use Rattle.wasm_spec_instructions.specs.Code.{Code, Is}
 use Rattle.wasm_spec_instructions.specs.ValueTypes.{vals}
 use Rattle.wasm_spec_validity.specs.Modules.{context_of, IsValidModule}
-use Rattle.wasm_laws_instructions.specs.Bodies.{body_in}
-use Rattle.wasm_laws_values.specs.Values.{Value, Instance, defined, hosted, Function, Exception, Store, signature_in, HaveTypes}
-use Rattle.wasm_laws_values.specs.Outcomes.{State, stuck, falls_through, leaves, Primitives}
-use Rattle.wasm_laws_values.specs.StoreValidity.{InstanceFits, IsTypedException}
+use Rattle.wasm_laws_soundness.specs.BodiesByRules.{body_in}
+use Rattle.wasm_laws_soundness.specs.Values.{Value, Instance, defined, hosted, Function, Exception, Store, signature_in, HaveTypes}
+use Rattle.wasm_laws_soundness.specs.Outcomes.{State, stuck, falls_through, leaves, Primitives}
+use Rattle.wasm_laws_soundness.specs.StoreValidity.{InstanceFits, IsTypedException}
 use Rattle.wasm_laws_soundness.specs.Interpreter.{invokes, run}
 use Rattle.wasm_laws_soundness.specs.Promises.{KeepsPromises}
 

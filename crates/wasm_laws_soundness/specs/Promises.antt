@@ -13,9 +13,9 @@ use Rattle.wasm_spec_steps.specs.Meanings.{address, signature_at, descriptor_hea
 use Rattle.wasm_spec_instructions.specs.ValueTypes.{ValueType, val, vals, reference_at, Match}
 use Rattle.wasm_spec_instructions.specs.Scopes.{Scope}
 use Rattle.wasm_spec_instructions.specs.Rules.{Rule}
-use Rattle.wasm_laws_values.specs.Values.{Value, Instance, hosted, Function, Store, signature_in, HasType, HaveTypes}
-use Rattle.wasm_laws_values.specs.Outcomes.{Answer, Resumed, ends, suspends, Primitives, with_exception}
-use Rattle.wasm_laws_values.specs.StoreValidity.{Grows, InstanceFits, StoreFits, IsKept}
+use Rattle.wasm_laws_soundness.specs.Values.{Value, Instance, hosted, Function, Store, signature_in, HasType, HaveTypes}
+use Rattle.wasm_laws_soundness.specs.Outcomes.{Answer, Resumed, ends, suspends, Primitives, with_exception}
+use Rattle.wasm_laws_soundness.specs.StoreValidity.{Grows, InstanceFits, StoreFits, IsKept}
 use Rattle.wasm_laws_soundness.specs.Roles.{computing, resuming, role_of, handler_at}
 
 -- a type of references to continuations that take these types, or lesser ones, and give those, or greater ones

@@ -1,5 +1,8 @@
-//! Code that the typing rules type is never stuck, for any number of steps: soundness of the rules
-//! of the WebAssembly Core Specification 3.0 (Appendix, Type Soundness).
+//! What follows from the typing rules of the WebAssembly Core Specification 3.0 (Validation,
+//! Instructions): bodies, constant expressions and modules are valid exactly where the rules type their
+//! instructions, and code that they type is never stuck, for any number of steps (Appendix, Type
+//! Soundness). Values, states and outcomes of code, and when they fit what typing promises, are defined
+//! here too (Execution, Runtime Structure).
 #![tactic(auto)]
 
 ghost use Rattle.wasm_laws_soundness.specs.Example.{ExampleWorks};
@@ -7,6 +10,38 @@ ghost use Rattle.wasm_laws_soundness.specs.Frames.{NoRunReadsBelow};
 ghost use Rattle.wasm_laws_soundness.specs.Heights.{FunctionsHaveTheirHeights, HeightsAreAsSeen, RunsComeToTheEnd, ValidModulesHaveTheirHeights};
 ghost use Rattle.wasm_laws_soundness.specs.Laws.{FunctionsAreSound, HeightsAreAsTyped, NeverStuck, Soundness};
 ghost use Rattle.wasm_laws_soundness.specs.Modules.{ValidModulesNeverGetStuck};
+ghost use Rattle.wasm_laws_soundness.specs.TypingLaws.{BodiesAreTyped, ConstantsAreTyped, ModulesAreTyped};
+ghost use Rattle.wasm_laws_soundness.specs.ValueLaws.{ValuesHaveGreaterTypes, ValuesKeepTheirTypes};
+
+/// A body that the rules type is accepted, and where nothing is shared the rules type each body that
+/// is.
+#[tactic(auto, using(crate::proofs::BodiesByRules::bodies_are_typed))]
+pub fn bodies_are_typed<R>()
+    ensures { BodiesAreTyped R }
+{}
+
+/// A constant expression is accepted exactly where the rules type it.
+pub fn constants_are_typed<R>()
+    ensures { ConstantsAreTyped R }
+{}
+
+/// A module whose constant expressions and bodies the rules type is valid, and without shared types
+/// the other way round.
+pub fn modules_are_typed()
+    ensures { ModulesAreTyped }
+{}
+
+/// Values of some types are of each greater types.
+#[tactic(auto, using(crate::proofs::Values::have_greater_types))]
+pub fn values_have_greater_types<R>()
+    ensures { ValuesHaveGreaterTypes R }
+{}
+
+/// They are of the same types in each store that has grown.
+#[tactic(auto, using(crate::proofs::Values::keep_their_types))]
+pub fn values_keep_their_types<R>()
+    ensures { ValuesKeepTheirTypes R }
+{}
 
 /// Whatever the rules type runs, for every number of steps, to an outcome that its typing promises.
 #[tactic(auto, using(crate::proofs::SoundnessTheorem::soundness))]

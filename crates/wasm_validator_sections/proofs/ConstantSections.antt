@@ -18,8 +18,8 @@ use Rattle.wasm_validator_items.specs.WasmValidatorCoreResources.IndexContexts.{
 use Rattle.wasm_validator_items.specs.WasmValidatorCoreResources.ListContexts.{list_declares}
 use Rattle.wasm_validator_items.specs.WasmValidatorReferences.References.{marked, names_at, names_in}
 use Rattle.wasm_validator_items.proofs.SectionLoop.{adds_items, adds_and_notes}
-use Rattle.wasm_laws_modules.specs.WasmLawsContexts.ListedTypes.{types_declare}
-use Rattle.wasm_laws_modules.proofs.WasmLawsContexts.ListedTypes.{lists_declare_their_types}
+use Rattle.wasm_laws_modules.specs.WasmLawsCore.ListedTypes.{types_declare}
+use Rattle.wasm_laws_modules.proofs.WasmLawsCore.ListedTypes.{lists_declare_their_types}
 use Rattle.wasm_validator_sections.specs.Sections.{read_one, read_section}
 use Rattle.wasm_validator_sections.specs.ModuleNotes.{Noted, naming}
 

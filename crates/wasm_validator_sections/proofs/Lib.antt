@@ -2,7 +2,6 @@ pub use Rattle.wasm_validator_items.proofs.WasmValidatorCoreResources as WasmVal
 pub use Rattle.wasm_validator_items.proofs.WasmValidatorReferences as WasmValidatorReferences
 pub use Rattle.wasm_validator_items.proofs.WasmValidatorCore.WasmValidatorChecks as WasmValidatorChecks
 pub use Rattle.wasm_laws_modules.proofs.WasmLawsCore as WasmLawsCore
-pub use Rattle.wasm_laws_modules.proofs.WasmLawsContexts as WasmLawsContexts
 pub use Rattle.wasm_laws_modules.proofs as WasmLawsModules
 pub mod Cited
 pub mod Singles

@@ -20,8 +20,8 @@ use Rattle.wasm_validator_items.specs.WasmValidatorCore.declared.error.Error.The
 use Rattle.wasm_validator_items.specs.WasmValidatorCore.declared.limits.TheConstants.{MAX_ELEMENT_SEGMENTS}
 use Rattle.wasm_validator_items.specs.WasmValidatorCoreResources.IndexContexts.{id_of}
 use Rattle.wasm_validator_items.specs.WasmValidatorCoreResources.ListContexts.{list_declares}
-use Rattle.wasm_laws_modules.specs.WasmLawsContexts.ListedTypes.{types_declare}
-use Rattle.wasm_laws_modules.proofs.WasmLawsContexts.ListedTypes.{lists_declare_their_types}
+use Rattle.wasm_laws_modules.specs.WasmLawsCore.ListedTypes.{types_declare}
+use Rattle.wasm_laws_modules.proofs.WasmLawsCore.ListedTypes.{lists_declare_their_types}
 use Rattle.wasm_validator_items.specs.WasmValidatorReferences.WasmSpecValidity.Expressions.{expression_at}
 use Rattle.wasm_validator_items.specs.Answers.{Refuses}
 use Rattle.wasm_validator_items.specs.Entries.{add_table_entry, add_global_entry, add_element, add_data}

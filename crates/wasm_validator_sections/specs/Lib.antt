@@ -2,7 +2,6 @@ pub use Rattle.wasm_validator_items.specs.WasmValidatorReferences as WasmValidat
 pub use Rattle.wasm_validator_items.specs.WasmValidatorCore.WasmValidatorChecks as WasmValidatorChecks
 pub use Rattle.wasm_validator_items.specs.WasmValidatorCore as WasmValidatorCore
 pub use Rattle.wasm_laws_modules.specs.WasmLawsCore as WasmLawsCore
-pub use Rattle.wasm_laws_modules.specs.WasmLawsContexts as WasmLawsContexts
 pub use Rattle.wasm_validator_func.specs as WasmValidatorFunc
 pub use Rattle.wasm_laws_modules.specs as WasmLawsModules
 pub use Rattle.wasm_validator_items.specs.Entries

@@ -17,7 +17,7 @@ use Rattle.wasm_validator_items.specs.WasmValidatorCore.declared.limits.TheConst
 use Rattle.wasm_validator_items.specs.WasmValidatorCore.Machine.{add_group}
 use Rattle.wasm_validator_items.specs.WasmValidatorCore.Items.{is_startable, is_data_count, add_import, add_function, add_memory, add_tag, add_export}
 use Rattle.wasm_validator_items.specs.WasmValidatorCore.Answers.{TypesSoFar}
-use Rattle.wasm_laws_modules.specs.WasmLawsContexts.ListedTypes.{types_declare}
+use Rattle.wasm_laws_modules.specs.WasmLawsCore.ListedTypes.{types_declare}
 use Rattle.wasm_validator_items.specs.WasmValidatorReferences.WasmSpecValidity.Expressions.{expression_at}
 use Rattle.wasm_validator_sections.specs.Sections.{read_section}
 use Rattle.wasm_validator_sections.specs.Entries.{add_table_entry, add_global_entry, add_element, add_data}

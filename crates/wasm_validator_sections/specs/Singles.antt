@@ -8,7 +8,7 @@ use Rattle.wasm_readers.specs.WrittenIndices.{written}
 use Rattle.wasm_validator_types.specs.Spaces.{Spaces}
 use Rattle.wasm_validator_items.specs.WasmValidatorCore.declared.limits.TheConstants.{MAX_ELEMENT_SEGMENTS}
 use Rattle.wasm_validator_items.specs.WasmValidatorCore.Answers.{TypesSoFar}
-use Rattle.wasm_laws_modules.specs.WasmLawsContexts.ListedTypes.{types_declare}
+use Rattle.wasm_laws_modules.specs.WasmLawsCore.ListedTypes.{types_declare}
 use Rattle.wasm_validator_items.specs.WasmValidatorReferences.WasmSpecValidity.Expressions.{expression_at}
 use Rattle.wasm_validator_items.specs.Entries.{add_table_entry, add_global_entry, add_element, add_data}
 use Rattle.wasm_validator_items.specs.Sections.{read_one, read_one_of}

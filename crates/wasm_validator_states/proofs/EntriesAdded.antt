@@ -28,7 +28,7 @@ use Rattle.wasm_validator_sections.specs.WasmValidatorCore.Answers.{TypesSoFar}
 use Rattle.wasm_validator_sections.specs.WasmValidatorCore.Items.{types_of_module, with_table, with_global}
 use Rattle.wasm_validator_sections.specs.WasmLawsCore.ModuleParts.{listed, listed_table, listed_global, listed_element}
 use Rattle.wasm_validator_sections.proofs.WasmLawsCore.AddedItems.{each_changed}
-use Rattle.wasm_validator_sections.specs.WasmLawsContexts.ListedTypes.{types_declare}
+use Rattle.wasm_validator_sections.specs.WasmLawsCore.ListedTypes.{types_declare}
 use Rattle.wasm_spec_validity.specs.Expressions.{expression_at}
 use Rattle.wasm_validator_sections.specs.Sections.{read_section}
 use Rattle.wasm_validator_sections.specs.Entries.{is_constant_of, is_constant_or_none, are_items, may_be_placed, may_be_stored, listed_items_type, add_table_entry, add_global_entry, add_element, add_data}

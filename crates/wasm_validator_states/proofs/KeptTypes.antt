@@ -12,8 +12,8 @@ use Rattle.wasm_validator_type_list.specs.DefTypes.{def_types, types_of_list}
 use Rattle.wasm_validator_types.specs.Spaces.{Spaces}
 use Rattle.wasm_validator_sections.specs.WasmValidatorCore.Answers.{TypesSoFar, AddsWhere, HasValidTypes}
 use Rattle.wasm_validator_sections.specs.WasmValidatorCore.declared.error.Error.{Error}
-use Rattle.wasm_validator_sections.specs.WasmLawsContexts.WasmValidatorCoreResources.ById.{AreFirstByIds}
-use Rattle.wasm_validator_sections.proofs.WasmLawsContexts.GrownLists.{first_types_stay_first}
+use Rattle.wasm_validator_sections.specs.WasmLawsCore.WasmValidatorCoreResources.ById.{AreFirstByIds}
+use Rattle.wasm_validator_sections.proofs.WasmLawsCore.GrownLists.{first_types_stay_first}
 use Rattle.wasm_validator_sections.specs.declared.module_state.ModuleState.{ModuleState}
 use Rattle.wasm_validator_sections.specs.Machine.{type_items}
 use Rattle.wasm_validator_states.specs.ModuleInvariants.{AreFirstIn}

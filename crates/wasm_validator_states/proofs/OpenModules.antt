@@ -2,7 +2,7 @@
 use Rattle.std.proofs.Common.{◌≡◌, refl, sym, ap, subst, ◌∙◌, ℕ, ◌<◌, List, Some, None}
 use Rattle.wasm_readers_errors.specs.WasmReadersFeatures.declared.features.WasmFeatures.{WasmFeatures}
 use Rattle.wasm_readers_types.specs.declared.types.SubType.{SubType}
-use Rattle.wasm_validator_sections.specs.WasmLawsContexts.WasmValidatorCoreResources.ById.{AreFirstByIds}
+use Rattle.wasm_validator_sections.specs.WasmLawsCore.WasmValidatorCoreResources.ById.{AreFirstByIds}
 use Rattle.wasm_validator_types.specs.Spaces.{Spaces}
 use Rattle.wasm_validator_states.specs.declared.state.State.{State}
 use Rattle.wasm_validator_states.specs.declared.state.State.TheVariants.{Unparsed, Module, Code, End, Failed}

@@ -38,7 +38,7 @@ use Rattle.wasm_validator_sections.specs.WasmLawsCore.ModuleParts.{listed_table,
 use Rattle.wasm_validator_sections.specs.WasmLawsCore.Lists.{only_types, only_imports, up_to_functions, add_imports, add_functions, add_memories, add_tags, add_exports}
 use Rattle.wasm_validator_sections.proofs.WasmLawsCore.AddedItems.{for_each}
 use Rattle.wasm_validator_sections.proofs.WasmLawsCore.StartFunctions.{starts_are_decided}
-use Rattle.wasm_validator_sections.specs.WasmLawsContexts.ListedTypes.{types_declare}
+use Rattle.wasm_validator_sections.specs.WasmLawsCore.ListedTypes.{types_declare}
 use Rattle.wasm_spec_validity.specs.Expressions.{expression_at}
 use Rattle.wasm_spec_validity.specs.Modules.{Numbering}
 use Rattle.wasm_spec_validity.proofs.FirstAppearances.{types_are_numbered}

@@ -28,7 +28,7 @@ use Rattle.wasm_validator_sections.specs.WasmValidatorReferences.References.{sec
 use Rattle.wasm_validator_states.proofs.ListGrowth.{body_some}
 use Rattle.wasm_validator_sections.specs.Sections.{read_each, read_section}
 use Rattle.wasm_validator_sections.specs.Entries.{may_be_stored, add_data}
-use Rattle.wasm_validator_sections.specs.WasmLawsContexts.ListedTypes.{types_declare}
+use Rattle.wasm_validator_sections.specs.WasmLawsCore.ListedTypes.{types_declare}
 use Rattle.wasm_spec_validity.specs.Expressions.{expression_at}
 use Rattle.wasm_validator_sections.specs.Machine.{data_items, section_items, start_item, data_count_item, beside}
 use Rattle.wasm_validator_sections.proofs.ItemSteps.{read_back}

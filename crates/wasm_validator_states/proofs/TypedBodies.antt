@@ -26,7 +26,7 @@ use Rattle.wasm_spec_validity.specs.Expressions.{named}
 use Rattle.wasm_spec_validity.specs.Typing.{HasTypedBodies}
 use Rattle.wasm_spec_validity.specs.Modules.{context_of}
 use Rattle.wasm_validator_sections.specs.WasmValidatorReferences.References.{section_names, piece_names, marked}
-use Rattle.wasm_validator_sections.specs.WasmLawsContexts.WasmValidatorCoreResources.ModuleContexts.{flagged_from}
+use Rattle.wasm_validator_sections.specs.WasmLawsCore.WasmValidatorCoreResources.ModuleContexts.{flagged_from}
 use Rattle.wasm_validator_sections.specs.WasmLawsCore.ModuleParts.{spaces_of}
 use Rattle.wasm_validator_sections.specs.WasmValidatorFunc.Functions.{IsFunctionBody}
 use Rattle.wasm_validator_types.specs.Spaces.{Spaces}

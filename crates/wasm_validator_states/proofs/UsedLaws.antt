@@ -15,7 +15,7 @@ use Rattle.wasm_validator_sections.specs.WasmValidatorReferences.NamedFunctions.
 use Rattle.wasm_validator_sections.proofs.WasmValidatorReferences.PieceReferences.{pieces_name_what_is_referenced}
 use Rattle.wasm_validator_sections.specs.WasmValidatorReferences.Marks.{MarkedFlagsSayNames}
 use Rattle.wasm_validator_sections.proofs.WasmValidatorReferences.Marks.{flags_say_names}
-use Rattle.wasm_validator_sections.specs.WasmLawsContexts.WasmValidatorCoreResources.ModuleContexts.{FlagsSayReferences}
+use Rattle.wasm_validator_sections.specs.WasmLawsCore.WasmValidatorCoreResources.ModuleContexts.{FlagsSayReferences}
 use Rattle.wasm_validator_sections.proofs.WasmValidatorCoreResources.Lists.{flags_say_references}
 
 pub record UsedLaws : Type 0 where

@@ -27,7 +27,7 @@ use Rattle.wasm_validator_sections.specs.WasmValidatorCore.Answers.{TypesSoFar}
 use Rattle.wasm_validator_sections.specs.WasmLawsCore.Exports.{HasSpaces, FitExports, with_exports}
 use Rattle.wasm_validator_sections.specs.WasmLawsCore.Imports.{KeepsLimits, FitsImport, with_entry}
 use Rattle.wasm_validator_sections.specs.WasmLawsCore.ModuleParts.{listed, listed_table, listed_global, listed_element}
-use Rattle.wasm_validator_sections.specs.WasmLawsContexts.ListedTypes.{types_declare}
+use Rattle.wasm_validator_sections.specs.WasmLawsCore.ListedTypes.{types_declare}
 use Rattle.wasm_spec_validity.specs.Expressions.{expression_at}
 use Rattle.wasm_validator_sections.specs.Entries.{is_constant_of, is_constant_or_none, are_items, may_be_placed, may_be_stored}
 use Rattle.wasm_validator_sections.specs.WasmLawsModules.Maps.{map_items}

@@ -20,8 +20,8 @@ use Rattle.wasm_validator_tables.specs.declared.function.Found.{Found}
 use Rattle.wasm_validator_tables.specs.declared.function.NoTable.{NoTable}
 use Rattle.wasm_validator_tables.specs.declared.function.NoTable.TheVariants as no_table
 
--- Behind the first payloads of the bytes, all of which a new validator accepted, the next one hands out this body, which is of this function. It
--- stands in the bytes, from this offset on.
+-- Behind the first payloads of the bytes, all of which a new validator accepted, the next one hands out this body alone, whose index is that of this
+-- function. From this offset on, the bytes are at least as many as those of the body.
 pub record IsBodyIn (bytes : List ℕ) (features : WasmFeatures) (function : ℕ) (body : BodyToValidate) (offset : ℕ) : Type 0 where
   pub reached : Standing
   pub behind : State

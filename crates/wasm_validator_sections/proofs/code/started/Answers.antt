@@ -6,8 +6,8 @@ use Rattle.wasm_validator_items.specs.WasmValidatorCoreResources.ById.{AreFirstB
 use Rattle.wasm_validator_items.specs.WasmValidatorCoreResources.ModuleContexts.{exact_flags, flagged_from}
 use Rattle.wasm_validator_items.specs.WasmValidatorCoreResources.ListContexts.{list_declares}
 use Rattle.wasm_validator_items.specs.WasmValidatorCoreResources.IndexContexts.{id_of}
-use Rattle.wasm_laws_modules.specs.WasmLawsContexts.ListedTypes.{types_declare}
-use Rattle.wasm_laws_modules.proofs.WasmLawsContexts.ListedTypes.{lists_declare_their_types}
+use Rattle.wasm_laws_modules.specs.WasmLawsCore.ListedTypes.{types_declare}
+use Rattle.wasm_laws_modules.proofs.WasmLawsCore.ListedTypes.{lists_declare_their_types}
 use Rattle.wasm_laws_modules.specs.BodyContexts.{code_context}
 use Rattle.wasm_validator_sections.proofs.code.started.Goals as goal
 

@@ -4,7 +4,7 @@ use Rattle.wasm_validator_states.specs.WasmValidatorTypeList.DefTypes.{types_of_
 use Rattle.wasm_validator_states.specs.WasmValidatorTypes.Spaces.{Spaces}
 use Rattle.wasm_validator_states.specs.WasmValidatorCanonical.Groups.{AreValid}
 use Rattle.wasm_validator_states.specs.WasmValidatorSections.WasmValidatorCore.OpenLists.{IsOpenFor, AreIdsOf}
-use Rattle.wasm_validator_states.specs.WasmValidatorSections.WasmLawsContexts.WasmValidatorCoreResources.ById.{AreFirstByIds}
+use Rattle.wasm_validator_states.specs.WasmValidatorSections.WasmLawsCore.WasmValidatorCoreResources.ById.{AreFirstByIds}
 use Rattle.wasm_validator_states.proofs.OpenModules.{open-ids, open-valid, open-first}
 use Rattle.wasm_validator_modules.proofs.validator.Validator.code_section_start.Goals as goal
 

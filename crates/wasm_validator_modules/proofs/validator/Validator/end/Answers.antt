@@ -6,7 +6,7 @@ use Rattle.wasm_validator_states.specs.WasmValidatorCanonical.Groups.{AreValid}
 use Rattle.wasm_validator_states.specs.WasmValidatorTypeList.DefTypes.{types_of_list}
 use Rattle.wasm_validator_states.specs.WasmValidatorTypes.ShownModules.{shown_of}
 use Rattle.wasm_validator_states.specs.WasmValidatorSections.WasmValidatorCore.OpenLists.{IsOpenFor}
-use Rattle.wasm_validator_states.specs.WasmValidatorSections.WasmLawsContexts.WasmValidatorCoreResources.ById.{AreFirstByIds}
+use Rattle.wasm_validator_states.specs.WasmValidatorSections.WasmLawsCore.WasmValidatorCoreResources.ById.{AreFirstByIds}
 use Rattle.wasm_validator_states.specs.ValidatorStages.{Standing}
 use Rattle.wasm_validator_states.specs.Views.{ended_spaces}
 use Rattle.wasm_validator_states.proofs.OpenModules.{ended_from_open, shown_from_open, read-valid, read-first, shown-valid, shown-ids}

@@ -1,5 +1,0 @@
-use Rattle.wasm_laws_contexts.proofs.GroupTrees.{groups_are_recursive_types}
-use Rattle.wasm_laws_contexts.proofs.groups_are_recursive_types.Goals as goal
-
-pub returns : goal.returns
-returns g c = groups_are_recursive_types

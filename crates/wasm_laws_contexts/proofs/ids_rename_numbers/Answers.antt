@@ -1,5 +1,0 @@
-use Rattle.wasm_laws_contexts.proofs.NumbersAndIds.{ids_rename_numbers}
-use Rattle.wasm_laws_contexts.proofs.ids_rename_numbers.Goals as goal
-
-pub returns : goal.returns
-returns g c = ids_rename_numbers

@@ -1,5 +1,0 @@
-use Rattle.wasm_laws_contexts.proofs.ModuleOverIds.{modules_are_over_ids}
-use Rattle.wasm_laws_contexts.proofs.modules_are_over_ids.Goals as goal
-
-pub returns : goal.returns
-returns g c = modules_are_over_ids

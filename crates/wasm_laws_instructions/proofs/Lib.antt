@@ -1,5 +1,0 @@
-pub mod Bodies
-pub mod Constants
-pub mod ModuleConstants
-pub mod NumberedContexts
-pub mod Modules

@@ -1,5 +1,0 @@
-use Rattle.wasm_laws_instructions.proofs.Constants.{constants_are_typed}
-use Rattle.wasm_laws_instructions.proofs.constants_are_typed.Goals as goal
-
-pub returns : goal.returns
-returns g c = constants_are_typed _

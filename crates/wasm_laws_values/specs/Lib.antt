@@ -1,4 +1,0 @@
-pub mod Values
-pub mod Outcomes
-pub mod StoreValidity
-pub mod Laws
