@@ -1,7 +1,7 @@
 #!/usr/bin/env python3
 """body_rows.py [--check]: writes the rows of crates/test_all/data/bodies, or compares what it makes with those that are there.
 
-Each case is a function's body by its operators, over the context that crates/rows_bodies/src/sample.rt has too. A body is put as the last
+Each case is a function's body by its operators, over the context that crates/test_all/src/sample.rt has too. A body is put as the last
 one into a module with the context. What the Rust crate answered for that module, all its features on, is in tools/crate_answers.txt; the
 verdict and the offset, less where the body begins, are what the row wants. A case whose module has no answer there names what it wants, by
 the Core Specification; so do refusals for want of a proposal, whose texts are the crate's `NAME support is not enabled`.

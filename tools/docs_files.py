@@ -55,7 +55,7 @@ def check_options(tree):
                 if not tool or not tree.has(tool[1]):
                     continue
                 sources = [tool[1]]
-                sources += tree.files("crates/wasm_check/src", "crates/wasm_check_files/src", "crates/wasm_check_reports/src") if "wasm-check" in tool[1] else []
+                sources += tree.files("crates/wasm_check/src", "crates/wasm_check_reports/src") if "wasm-check" in tool[1] else []
                 sources += tree.files("crates/rows_files/src", "crates/test_all/src") if "run_unproved" in tool[1] else []
                 text_of = "\n".join(tree.read(it) for it in sources)
                 for option in re.findall(r"(?<=\s)--([a-z][\w-]*)", tool[2]):

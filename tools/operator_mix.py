@@ -5,7 +5,7 @@
 
 FILE gets about so many bytes of operators that leave the stack as they found it, so that the file may stand in a
 body any number of times. With --flat each kind of operator is as frequent as any other, as far as operands allow.
-They are valid in the module of crates/rows_bodies/src/bench.rt: functions of type [i64 i32] -> [i32], locals as
+They are valid in the module of crates/test_all/src/bench.rt: functions of type [i64 i32] -> [i32], locals as
 LOCALS says, a memory, and globals of types i32, i64 and i32. What share each operator has is printed.
 The same call writes the same bytes.
 """

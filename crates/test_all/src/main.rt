@@ -15,9 +15,17 @@
 //! - `--examples`: the examples.
 #![tactic(auto)]
 
+mod bench;
+mod bodies;
+mod items;
+mod operators;
+mod row;
+mod sample;
 mod tests;
+mod types;
 
-use rows_bodies::{print_items, time_body, time_table};
+use bench::{time_body, time_table};
+use items::print_items;
 use rows_files::{has_option, print_error};
 use std::env::Env;
 use std::io::{self, Write};
@@ -44,7 +52,7 @@ fn run<R: Env + Files + Clock + Print + AllocGlobal, W: Write, E: Write>(
     err: &mut E,
 ) -> io::Result<u8> {
     let modules = rows_modules::run_rows(rt, out, err)?;
-    let bodies = rows_bodies::run_rows(rt, out, err)?;
+    let bodies = bodies::run_rows(rt, out, err)?;
     let rows = modules.max(bodies).max(run_wrong_rows(rt, out, err)?);
     time_body(rt, out, err)?;
     time_table(rt, out, err)?;
@@ -61,7 +69,7 @@ fn run_wrong_rows<R: Env + Files + AllocGlobal, W: Write, E: Write>(
     err: &mut E,
 ) -> io::Result<u8> {
     let modules = rows_modules::run_wrong_rows(rt, out, err)?;
-    let bodies = rows_bodies::run_wrong_rows(rt, out, err)?;
+    let bodies = bodies::run_wrong_rows(rt, out, err)?;
     Ok(modules.max(bodies))
 }
 

@@ -1,19 +1,27 @@
 //! `wasm-check [OPTIONS] FILE..` says of each file whether it is a valid WebAssembly module.
 #![tactic(auto)]
 
+mod check;
+mod features;
+mod folders;
 mod meter;
+mod progress;
+mod read;
+mod suggestions;
 mod words;
 
 use anyhow::{Result, bail};
+use check::check_files;
 use clap::ArgMatches;
+use features::select_features;
+use folders::{Found, find_files};
 use meter::Meter;
 use std::alloc::Global;
 use std::env;
 use std::io::IsTerminal;
 use std::process::ExitCode;
-use wasm_check_files::{
-    Form, Found, Printable, STATUS_TROUBLE, Settings, check_files, find_files, select_features,
-};
+use wasm_check_reports::files::{Printable, STATUS_TROUBLE};
+use wasm_check_reports::{Form, Settings};
 use words::{command, end_of_help, gather_words, show_words, suggest};
 
 fn main(rt: HostRuntime) -> ExitCode {
@@ -32,7 +40,7 @@ fn run(rt: &HostRuntime) -> Result<u8> {
     let words = gather_words(rt)?;
     let end = end_of_help(rt.alloc())?;
     match command(rt.alloc(), end.as_str())?.try_get_matches_from(words.as_slice()) {
-        Ok(matches) => check(rt, &matches),
+        Ok(matches) => check_as_told(rt, &matches),
         Err(_) => answer_words(rt, words.as_slice(), end.as_str()),
     }
 }
@@ -57,7 +65,8 @@ fn show(rt: &HostRuntime, error: &clap::Error) -> Result<u8> {
     }
 }
 
-fn check(rt: &HostRuntime, matches: &ArgMatches<'_>) -> Result<u8> {
+/// Checks the files that the words name. The answer is the exit status.
+fn check_as_told(rt: &HostRuntime, matches: &ArgMatches<'_>) -> Result<u8> {
     let names = matches.get_strs("FILE").unwrap_or(&[]);
     if names.iter().filter(|name| **name == "-").count() > 1 {
         bail!("standard input can be read only once");

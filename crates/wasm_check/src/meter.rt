@@ -1,8 +1,8 @@
 //! How far a call is, on the error output. No contract says what is shown and when, since the kit has no
 //! model of clocks and of terminals.
 
+use crate::progress::Progress;
 use std::time::{Duration, Instant};
-use wasm_check_files::Progress;
 
 /// Says how far a call is, once it has worked for more than two seconds.
 #[derive(Drop)]

@@ -1,11 +1,12 @@
 //! The words on the command line.
 
+use crate::features::{Flags, WasmFeatures};
+use crate::read::NO_TEXT;
+use crate::suggestions::nearest_feature;
 use clap::{Arg, ArgAction, Command};
 use std::alloc::{AllocError, Global};
 use std::env::Env;
-use wasm_check_files::{
-    Flags, NO_TEXT, Printable, WasmFeatures, Word, nearest_feature, read_words,
-};
+use wasm_check_reports::files::{Printable, Word, read_words};
 
 /// What `--help` says of features.
 const FEATURES: &str =

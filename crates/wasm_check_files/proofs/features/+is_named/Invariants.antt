@@ -1,5 +1,0 @@
-use Rattle.std.proofs.Common.{length}
-use Rattle.wasm_check_files.proofs.features.+is_named.Given as goal
-
-abbrev pub decreases-is_named : goal.decreases-is_named
-decreases-is_named l = length l.flag.now
