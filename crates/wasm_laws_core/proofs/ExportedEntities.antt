@@ -169,7 +169,7 @@ module _ (c : Bool) (us : List DefType) (ids : List ℕ) (types : List DefType) 
   exported_size_is F exact k (tag_extern x) h = entity_size_is c us ids types stand (tag_extern x) h
 
 -- an item of a list keeps what all of the list keep
-found_keeps : {X : Type 0} (P : X → Type 0) (xs : List X) (k : ℕ) (x : X) → All P xs → slice_get xs k ≡ Some x → P x
+pub found_keeps : {X : Type 0} (P : X → Type 0) (xs : List X) (k : ℕ) (x : X) → All P xs → slice_get xs k ≡ Some x → P x
 found_keeps P xs k x a e = subst P (get_or_from_slice_get xs k x x e) (a k x (slice_get_within xs k x e))
 
 -- what is exported is of a function type, where all functions and tags are

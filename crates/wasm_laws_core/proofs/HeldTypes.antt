@@ -2,7 +2,7 @@
 use Rattle.std.proofs.Common.{◌≡◌, refl, sym, subst, inl, inr, ℕ, ◌-◌, ◌<◌, ◌==◌, ◌&&◌, Bool, true, false, true≢false, cond, List, [], ◌∷◌, map, length, get_or, filter, flat_map, slice_get, Option, Some, None, is_some, IsTrue, All}
 use Rattle.std.specs.Option.{option_map, option_and_then}
 use Rattle.std.proofs.lemmas.List.Elements.{All-head, All-tail, All-cons, All-nil, All-map, All-weaker, All-append, All-filter}
-use Rattle.std.proofs.lemmas.Option.{slice_get-get_or, slice_get_within, get_or_from_slice_get}
+use Rattle.std.proofs.lemmas.Option.{slice_get-get_or, slice_get_within}
 use Rattle.wasm_spec.specs.Syntax.{Heap, abstract_heap, concrete, exact, Ref, Val, i32, i64, f32, f64, v128, reference, Sub, Table, Global, Extern, func_extern, func_exact_extern, table_extern, memory_extern, global_extern, tag_extern, map_heap, map_val}
 use Rattle.wasm_spec.specs.References.{refs_heap, refs_val}
 use Rattle.wasm_spec.specs.BinaryModules.{Import, Export}
@@ -21,6 +21,7 @@ use Rattle.wasm_validator_core.specs.WasmValidatorCanonical.Indices.{use_of_inde
 use Rattle.wasm_readers_types.specs.Entities.{Entity, IsIdOfOne, IsEntityOver}
 use Rattle.wasm_validator_types.specs.Rows.{all_imports}
 use Rattle.wasm_validator_types.specs.Rows as rows
+use Rattle.wasm_laws_core.proofs.ExportedEntities.{found_keeps}
 use Rattle.wasm_laws_core.specs.ShownTypeIds.{AreOver, ShownTypesAreHeld}
 use Rattle.wasm_laws_core.specs.ModuleParts.{listed, listed_table, listed_global, listed_element, entity_in, names_of, has_names, first_pairs, import_row, import_rows, as_exported, exported_as, export_row, exported_row, export_rows, exact_functions, spaces_of}
 
@@ -28,10 +29,6 @@ use Rattle.wasm_laws_core.specs.ModuleParts.{listed, listed_table, listed_global
 typed_within : (types : List DefType) (x : ℕ) (o : Option DefType) → slice_get types x ≡ o → IsTrue (is_some (option_and_then (λ (s : Sub DefType). signature s.comp) (option_and_then declared o))) → x < length types
 typed_within types x None e h = absurd (true≢false (sym h))
 typed_within types x (Some d) e h = slice_get_within types x d e
-
--- an item that is found keeps what all of a list keep
-found_keeps : {X : Type 0} (P : X → Type 0) (xs : List X) (k : ℕ) (x : X) → All P xs → slice_get xs k ≡ Some x → P x
-found_keeps P xs k x a e = subst P (get_or_from_slice_get xs k x x e) (a k x (slice_get_within xs k x e))
 
 -- all of the lists that items give
 all_flat : {X Y : Type 0} (Q : X → Type 0) (P : Y → Type 0) (f : X → List Y) → ((x : X) → Q x → All P (f x)) → (xs : List X) → All Q xs → All P (flat_map f xs)

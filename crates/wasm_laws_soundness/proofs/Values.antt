@@ -163,7 +163,7 @@ or-right : (a b c : Bool) → (b ≡ true → c ≡ true) → (a || b) ≡ true 
 or-right true b c f e = refl
 or-right false b c f e = f e
 
-or-cases : {X : Type 0} (a b : Bool) → (a || b) ≡ true → (a ≡ true → X) → (b ≡ true → X) → X
+pub or-cases : {X : Type 0} (a b : Bool) → (a || b) ≡ true → (a ≡ true → X) → (b ≡ true → X) → X
 or-cases true b e f g = f refl
 or-cases false b e f g = g e
 
@@ -171,7 +171,7 @@ or-left : (a b : Bool) → a ≡ true → (a || b) ≡ true
 or-left true b e = refl
 or-left false b e = no e
 
-or-second : (a b : Bool) → b ≡ true → (a || b) ≡ true
+pub or-second : (a b : Bool) → b ≡ true → (a || b) ≡ true
 or-second true b e = refl
 or-second false b e = e
 

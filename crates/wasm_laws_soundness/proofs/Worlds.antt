@@ -28,6 +28,7 @@ use Rattle.wasm_laws_soundness.proofs.NumberedContexts.{then_gives, from_map, pl
 use Rattle.wasm_laws_soundness.specs.Values.{signature_in}
 use Rattle.wasm_laws_soundness.specs.StoreValidity.{FunctionsMatch}
 use Rattle.wasm_laws_soundness.proofs.Steps.{vals-through}
+use Rattle.wasm_laws_soundness.proofs.Values.{or-cases, or-second}
 
 -- lists and truth values
 module _ {X : Type 0} (P : X → Type 0) where
@@ -39,17 +40,9 @@ module _ {X : Type 0} (P : X → Type 0) where
   all-second [] ys h = h
   all-second (x ∷ xs) ys h = all-second xs ys (All-tail P x (xs ++ ys) h)
 
-either-of : {X : Type 0} (a b : Bool) → (a || b) ≡ true → (a ≡ true → X) → (b ≡ true → X) → X
-either-of true b e f g = f refl
-either-of false b e f g = g e
-
 both-hold : (a b : Bool) → a ≡ true → b ≡ true → (a && b) ≡ true
 both-hold true b e f = f
 both-hold false b e f = no e
-
-or-after : (a b : Bool) → b ≡ true → (a || b) ≡ true
-or-after true b e = refl
-or-after false b e = e
 
 flag-itself : (s t : Bool) → s ≡ t → same_flag s t ≡ true
 flag-itself true t e = sym e
@@ -71,7 +64,7 @@ below-supertype :
     (xs : List (ℕ × Sub ℕ)) (a y : ℕ) (s : Sub ℕ) → declared_in nat_eq xs a ≡ Some s → supertype s ≡ Some y → is_below nat_eq xs (length xs) a y ≡ true
 below-supertype [] a y s e f = absurd (absent s e)
 below-supertype (x ∷ xs) a y s e f =
-    or-after (nat_eq a y) (passes (λ c. is_below nat_eq (x ∷ xs) (length xs) c y) (declared_in nat_eq (x ∷ xs) a >>= supertype))
+    or-second (nat_eq a y) (passes (λ c. is_below nat_eq (x ∷ xs) (length xs) c y) (declared_in nat_eq (x ∷ xs) a >>= supertype))
     (ap (λ (o : Option (Sub ℕ)). passes (λ c. is_below nat_eq (x ∷ xs) (length xs) c y) (o >>= supertype)) e
     ∙ ap (passes (λ c. is_below nat_eq (x ∷ xs) (length xs) c y)) f
     ∙ below-itself (x ∷ xs) (length xs) y)
@@ -238,7 +231,7 @@ module _ (F : Features) (types ds : List DefType) (N : DefType → ℕ) (accepte
   steps-match : (n a b : ℕ) (g : Signature ℕ) → is_below nat_eq C.declares n a b ≡ true → signature_in V b ≡ Some g → Goes (signature_in V a) g
   steps-match zero a b g e w = (g, ap (signature_in V) ((Decides-eqb a b).0 e) ∙ w, match-itself V o (vals g.takes), match-itself V o (vals g.gives))
   steps-match (suc n) a b g e w =
-      either-of (nat_eq a b) (passes (λ c. is_below nat_eq C.declares n c b) (V.declared a >>= supertype)) e
+      or-cases (nat_eq a b) (passes (λ c. is_below nat_eq C.declares n c b) (V.declared a >>= supertype)) e
       (λ f. (g, ap (signature_in V) ((Decides-eqb a b).0 f) ∙ w, match-itself V o (vals g.takes), match-itself V o (vals g.gives)))
       (λ f. let c = passes-gives (λ c. is_below nat_eq C.declares n c b) (V.declared a >>= supertype) f in
       let s = bind-gives (V.declared a) supertype c.0 c.1 in
