@@ -38,9 +38,20 @@ def blocks_of(tree, path):
     return found
 
 
+def count_below(tree, name):
+    """How many crates of the repository `bin/vendor` copies for this one: it and all below it."""
+    rows = (row.split("#")[0].partition(":") for row in tree.read("crates.txt").split("\n"))
+    graph, found, left = {head.split()[0]: words.split() for head, colon, words in rows if colon}, set(), [name]
+    while left:
+        crate = left.pop()
+        left += [] if crate in found else graph.get(crate, [])
+        found |= {crate} & graph.keys()
+    return len(found)
+
+
 def check_code(tree):
-    """What README shows: code from a source that it names is there, part by part; what other code calls is a call of some crate; and each line of
-    `wasm-validate` and of an example that it shows is one that a test expects, the file's name aside."""
+    """What README shows: code from a source that it names is there, part by part; what other code calls is a call of some crate; each line of
+    `wasm-validate` and of an example that it shows is one that a test expects, the file's name aside; and `bin/vendor` adds as many crates."""
     code = Code.of(tree)
     calls = {it.split("::")[-1] for its in code.functions.values() for it in its}
     tests = [*tree.files("crates", "tests", ending="stdout"), *tree.files("crates/test_programs/src", "crates/examples/src"), *(it for it in tree.files("tools") if "/try_" in it)]
@@ -59,6 +70,9 @@ def check_code(tree):
             printed = re.search(r"(?:^|: )((?:ok types|refused at|turned away|let in).*)", row)
             if printed and "MESSAGE" not in row and printed[1] not in expected:
                 yield f"README.md:{at}: no test expects the line: {row}"
+            vendored = re.match(r"vendor: .*?(\d+) crates added.* (\d+) lines of crates.txt added", row)
+            if vendored and {*vendored.groups()} != {str(count_below(tree, "wasm_validator"))}:
+                yield f"README.md:{at}: bin/vendor adds {count_below(tree, 'wasm_validator')} crates and lines: {row}"
 
 
 def count_rows(tree, folder):

@@ -39,6 +39,7 @@ PLANTS = [
     # code and numbers
     ("other code in README than in its source", "README.md", r"error\.is_out_of_memory\(\)", "error.is_out_of_storage()", "code"),
     ("another output in README than of the test", "README.md", "turned away, for byte 11: size", "turned away, for byte 12: size", "code"),
+    ("another number of crates that bin/vendor adds", "README.md", r"\d+ crates added", "9 crates added", "code"),
     ("another number of rows", "README.md", HEAD, "5,001 rows of modules, and more.", "counts"),
     ("another number of wrong bodies", "CONTRIBUTING.md", HEAD, "There are 1,300 wrong bodies.", "counts"),
     ("another number of crates", "docs/ARCHITECTURE.md", HEAD, "The 70 crates are proved.", "counts"),
