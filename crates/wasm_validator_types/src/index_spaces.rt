@@ -8,7 +8,7 @@ ghost use Rattle.wasm_readers.specs.WasmReadersTypes.SeenExterns.{table_of, memo
 ghost use Rattle.wasm_readers.specs.WasmReadersTypes.WasmReadersValues.SeenValues.{ref_of};
 ghost use Rattle.wasm_validator_types.specs.Entities.{entity_of, IsAmong};
 ghost use Rattle.wasm_validator_types.specs.Spaces.{no_spaces, importing_global, with_import, is_exported, is_exact};
-ghost use Rattle.indexmap.specs.IndexMap.{index_map_len};
+ghost use Rattle.indexmap.specs.IndexMap.{index_map_len, hasher_of};
 ghost use Rattle.wasm_validator_types.specs.IteratorItems.{imports_left, exports_left};
 ghost use Rattle.wasm_validator_types.specs.Rows.{all_imports};
 ghost use Rattle.wasm_validator_types.specs.SpacesSeen.{numbers, PutsAt, AddsToPair};
@@ -30,7 +30,8 @@ pub(crate) type ExportMap<A> = IndexMap<String<A>, EntityType, NameKey, A>;
 
 /// Has imports found by this key, where there are none.
 fn key_imports<A: Allocator + Copy>(imports: &mut ImportMap<A>, alloc: A, key: NameKey)
-    ensures { imports.new.entries ≡ imports.old.entries }
+    ensures same { imports.new.entries ≡ imports.old.entries }
+    ensures keyed { index_map_len imports.old ≡ 0 → hasher_of imports.new ≡ key }
 {
     if imports.is_empty() {
         *imports = IndexMap::with_hasher(alloc, key);
@@ -39,7 +40,8 @@ fn key_imports<A: Allocator + Copy>(imports: &mut ImportMap<A>, alloc: A, key: N
 
 /// Has exports found by this key, where there are none.
 fn key_exports<A: Allocator + Copy>(exports: &mut ExportMap<A>, alloc: A, key: NameKey)
-    ensures { exports.new.entries ≡ exports.old.entries }
+    ensures same { exports.new.entries ≡ exports.old.entries }
+    ensures keyed { index_map_len exports.old ≡ 0 → hasher_of exports.new ≡ key }
 {
     if exports.is_empty() {
         *exports = IndexMap::with_hasher(alloc, key);

@@ -18,6 +18,6 @@ invariant_of-self g c =
       functions_typed = was.functions_typed;
       tags_typed = was.tags_typed;
       imported_globals = was.imported_globals;
-      imports_typed = subst (AreImportsAmong ids) (ap (map shown_import) (sym c.key_imports.ensures)) was.imports_typed;
-      exports_typed = subst (AreExportsAmong ids) (ap (map shown_export) (sym c.key_exports.ensures)) was.exports_typed;
+      imports_typed = subst (AreImportsAmong ids) (ap (map shown_import) (sym c.key_imports.ensures.same)) was.imports_typed;
+      exports_typed = subst (AreExportsAmong ids) (ap (map shown_export) (sym c.key_exports.ensures.same)) was.exports_typed;
     }
