@@ -68,7 +68,7 @@ pub fn ref_test<A: Allocator, T: WasmModuleResources>(
 ///
 /// Refuses an unknown type, one that the features don't allow, one of continuations, and an operand
 /// of another hierarchy.
-#[tactic(auto, using(crate::proofs::Cited::acts, crate::proofs::HierarchyTops::tests, wasm_typing_references::proofs::WrittenHeapTypes::written))]
+#[tactic(auto, using(crate::proofs::Cited::acts, crate::proofs::HierarchyTops::tests, crate::proofs::Cited::written))]
 pub fn ref_cast<A: Allocator, T: WasmModuleResources>(
     stacks: &mut Stacks<A>,
     resources: &T,

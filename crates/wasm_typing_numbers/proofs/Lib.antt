@@ -4,3 +4,4 @@ pub mod TypeComparisons
 pub mod FormTypes
 pub mod TableLookups
 pub mod WideTypes
+pub mod Cited

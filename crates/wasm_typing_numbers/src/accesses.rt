@@ -76,7 +76,7 @@ fn misfit(op: MemoryOperator, arg: MemArg) -> OperatorRule {
 }
 
 /// A load of a number of this type.
-#[tactic(auto, using(wasm_typing_checks::proofs::ActionSteps::acts, wasm_typing_checks::proofs::TypeLookups::memories))]
+#[tactic(auto, using(crate::proofs::Cited::acts, crate::proofs::Cited::memories))]
 fn load<A: Allocator, T: WasmModuleResources>(
     stacks: &mut Stacks<A>,
     resources: &T,
@@ -110,7 +110,7 @@ fn load<A: Allocator, T: WasmModuleResources>(
 }
 
 /// A store of a number of this type.
-#[tactic(auto, using(wasm_typing_checks::proofs::ActionSteps::acts, wasm_typing_checks::proofs::TypeLookups::memories))]
+#[tactic(auto, using(crate::proofs::Cited::acts, crate::proofs::Cited::memories))]
 fn store<A: Allocator, T: WasmModuleResources>(
     stacks: &mut Stacks<A>,
     resources: &T,

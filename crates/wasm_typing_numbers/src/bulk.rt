@@ -18,7 +18,7 @@ use wasm_typing_checks::{
 
 /// `table.copy`: takes an address in each of two tables, the one that is read on top, and a number
 /// of elements above them (Core Specification 3.0, Validation, Table Instructions).
-#[tactic(auto, using(wasm_typing_checks::proofs::ActionSteps::acts, wasm_typing_checks::proofs::TypeLookups::types, crate::proofs::TableLookups::tables))]
+#[tactic(auto, using(crate::proofs::Cited::acts, crate::proofs::Cited::types, crate::proofs::TableLookups::tables))]
 pub fn table_copy<A: Allocator, T: WasmModuleResources>(
     stacks: &mut Stacks<A>,
     resources: &T,
@@ -54,7 +54,7 @@ pub fn table_copy<A: Allocator, T: WasmModuleResources>(
 
 /// `table.init`: takes an address in a table, a place in an element segment, and a number of
 /// elements on top (Core Specification 3.0, Validation, Table Instructions).
-#[tactic(auto, using(wasm_typing_checks::proofs::ActionSteps::acts, wasm_typing_checks::proofs::TypeLookups::types, crate::proofs::TableLookups::tables))]
+#[tactic(auto, using(crate::proofs::Cited::acts, crate::proofs::Cited::types, crate::proofs::TableLookups::tables))]
 pub fn table_init<A: Allocator, T: WasmModuleResources>(
     stacks: &mut Stacks<A>,
     resources: &T,
@@ -90,7 +90,7 @@ pub fn table_init<A: Allocator, T: WasmModuleResources>(
 
 /// `elem.drop`: takes nothing and gives nothing (Core Specification 3.0, Validation, Table
 /// Instructions).
-#[tactic(auto, using(wasm_typing_checks::proofs::ActionSteps::acts, wasm_typing_checks::proofs::TypeLookups::types, crate::proofs::TableLookups::tables))]
+#[tactic(auto, using(crate::proofs::Cited::acts, crate::proofs::Cited::types, crate::proofs::TableLookups::tables))]
 pub fn elem_drop<A: Allocator, T: WasmModuleResources>(
     stacks: &mut Stacks<A>,
     resources: &T,

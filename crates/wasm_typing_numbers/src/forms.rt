@@ -264,7 +264,7 @@ fn has_room(memory: MemoryType, offset: u64) -> bool
 }
 
 /// An operator of this form.
-#[tactic(auto, using(wasm_typing_checks::proofs::ActionSteps::acts, crate::proofs::FormTypes::forms))]
+#[tactic(auto, using(crate::proofs::Cited::acts, crate::proofs::FormTypes::forms))]
 fn step_by_form<A: Allocator, T: WasmModuleResources>(
     stacks: &mut Stacks<A>,
     resources: &T,
@@ -306,7 +306,7 @@ fn step_by_form<A: Allocator, T: WasmModuleResources>(
 }
 
 /// An operator on vectors.
-#[tactic(auto, using(wasm_typing_checks::proofs::ActionSteps::acts))]
+#[tactic(auto, using(crate::proofs::Cited::acts))]
 pub fn step_vector<A: Allocator, T: WasmModuleResources>(
     stacks: &mut Stacks<A>,
     resources: &T,
@@ -327,7 +327,7 @@ pub fn step_vector<A: Allocator, T: WasmModuleResources>(
 }
 
 /// An atomic operator.
-#[tactic(auto, using(wasm_typing_checks::proofs::ActionSteps::acts))]
+#[tactic(auto, using(crate::proofs::Cited::acts))]
 pub fn step_atomic<A: Allocator, T: WasmModuleResources>(
     stacks: &mut Stacks<A>,
     resources: &T,

@@ -35,7 +35,7 @@ fn missing_data<T: WasmModuleResources>(resources: &T, data_index: u32) -> Opera
 }
 
 /// `memory.size`.
-#[tactic(auto, using(wasm_typing_checks::proofs::ActionSteps::acts, wasm_typing_checks::proofs::TypeLookups::memories, wasm_typing_checks::proofs::TypeLookups::types))]
+#[tactic(auto, using(crate::proofs::Cited::acts, crate::proofs::Cited::memories, crate::proofs::Cited::types))]
 fn memory_size<A: Allocator, T: WasmModuleResources>(
     stacks: &mut Stacks<A>,
     resources: &T,
@@ -57,7 +57,7 @@ fn memory_size<A: Allocator, T: WasmModuleResources>(
 }
 
 /// `memory.grow`.
-#[tactic(auto, using(wasm_typing_checks::proofs::ActionSteps::acts, wasm_typing_checks::proofs::TypeLookups::memories, wasm_typing_checks::proofs::TypeLookups::types))]
+#[tactic(auto, using(crate::proofs::Cited::acts, crate::proofs::Cited::memories, crate::proofs::Cited::types))]
 fn memory_grow<A: Allocator, T: WasmModuleResources>(
     stacks: &mut Stacks<A>,
     resources: &T,
@@ -82,7 +82,7 @@ fn memory_grow<A: Allocator, T: WasmModuleResources>(
 }
 
 /// `memory.fill`.
-#[tactic(auto, using(wasm_typing_checks::proofs::ActionSteps::acts, wasm_typing_checks::proofs::TypeLookups::memories, wasm_typing_checks::proofs::TypeLookups::types))]
+#[tactic(auto, using(crate::proofs::Cited::acts, crate::proofs::Cited::memories, crate::proofs::Cited::types))]
 fn memory_fill<A: Allocator, T: WasmModuleResources>(
     stacks: &mut Stacks<A>,
     resources: &T,
@@ -110,7 +110,7 @@ fn memory_fill<A: Allocator, T: WasmModuleResources>(
 }
 
 /// `memory.init`.
-#[tactic(auto, using(wasm_typing_checks::proofs::ActionSteps::acts, wasm_typing_checks::proofs::TypeLookups::memories, wasm_typing_checks::proofs::TypeLookups::types))]
+#[tactic(auto, using(crate::proofs::Cited::acts, crate::proofs::Cited::memories, crate::proofs::Cited::types))]
 fn memory_init<A: Allocator, T: WasmModuleResources>(
     stacks: &mut Stacks<A>,
     resources: &T,
@@ -142,7 +142,7 @@ fn memory_init<A: Allocator, T: WasmModuleResources>(
 }
 
 /// `data.drop`.
-#[tactic(auto, using(wasm_typing_checks::proofs::ActionSteps::acts, wasm_typing_checks::proofs::TypeLookups::memories, wasm_typing_checks::proofs::TypeLookups::types))]
+#[tactic(auto, using(crate::proofs::Cited::acts, crate::proofs::Cited::memories, crate::proofs::Cited::types))]
 fn data_drop<A: Allocator, T: WasmModuleResources>(
     stacks: &mut Stacks<A>,
     resources: &T,
@@ -162,7 +162,7 @@ fn data_drop<A: Allocator, T: WasmModuleResources>(
 }
 
 /// `memory.copy`.
-#[tactic(auto, using(wasm_typing_checks::proofs::ActionSteps::acts, wasm_typing_checks::proofs::TypeLookups::memories, wasm_typing_checks::proofs::TypeLookups::types))]
+#[tactic(auto, using(crate::proofs::Cited::acts, crate::proofs::Cited::memories, crate::proofs::Cited::types))]
 fn memory_copy<A: Allocator, T: WasmModuleResources>(
     stacks: &mut Stacks<A>,
     resources: &T,
@@ -199,7 +199,7 @@ fn memory_copy<A: Allocator, T: WasmModuleResources>(
 }
 
 /// `memory.discard`.
-#[tactic(auto, using(wasm_typing_checks::proofs::ActionSteps::acts, wasm_typing_checks::proofs::TypeLookups::memories, wasm_typing_checks::proofs::TypeLookups::types))]
+#[tactic(auto, using(crate::proofs::Cited::acts, crate::proofs::Cited::memories, crate::proofs::Cited::types))]
 fn memory_discard<A: Allocator, T: WasmModuleResources>(
     stacks: &mut Stacks<A>,
     resources: &T,

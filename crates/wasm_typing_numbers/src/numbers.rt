@@ -19,7 +19,7 @@ use wasm_typing_checks::validator_resources::WasmModuleResources;
 use wasm_typing_checks::{OperatorError, OperatorFault, OperatorRule, Takes, ValTypes, has, plain};
 
 /// An operator that takes a number and gives one.
-#[tactic(auto, using(wasm_typing_checks::proofs::ActionSteps::acts, wasm_typing_checks::proofs::TypeLookups::types))]
+#[tactic(auto, using(crate::proofs::Cited::acts, crate::proofs::Cited::types))]
 fn unary<A: Allocator, T: WasmModuleResources>(
     stacks: &mut Stacks<A>,
     resources: &T,
@@ -45,7 +45,7 @@ fn unary<A: Allocator, T: WasmModuleResources>(
 }
 
 /// An operator that takes two numbers of one type and gives one.
-#[tactic(auto, using(wasm_typing_checks::proofs::ActionSteps::acts, wasm_typing_checks::proofs::TypeLookups::types))]
+#[tactic(auto, using(crate::proofs::Cited::acts, crate::proofs::Cited::types))]
 fn binary<A: Allocator, T: WasmModuleResources>(
     stacks: &mut Stacks<A>,
     resources: &T,
@@ -87,7 +87,7 @@ pub fn compute<A: Allocator, T: WasmModuleResources>(
 }
 
 /// A constant of a number type.
-#[tactic(auto, using(wasm_typing_checks::proofs::ActionSteps::acts, wasm_typing_checks::proofs::TypeLookups::types))]
+#[tactic(auto, using(crate::proofs::Cited::acts, crate::proofs::Cited::types))]
 fn number<A: Allocator, T: WasmModuleResources>(
     stacks: &mut Stacks<A>,
     resources: &T,
@@ -110,7 +110,7 @@ fn number<A: Allocator, T: WasmModuleResources>(
 }
 
 /// A constant vector.
-#[tactic(auto, using(wasm_typing_checks::proofs::ActionSteps::acts, wasm_typing_checks::proofs::TypeLookups::types))]
+#[tactic(auto, using(crate::proofs::Cited::acts, crate::proofs::Cited::types))]
 fn vector<A: Allocator, T: WasmModuleResources>(
     stacks: &mut Stacks<A>,
     resources: &T,

@@ -16,7 +16,7 @@ use wasm_typing_checks::{
 
 /// `table.get`: takes an address, and gives an element (Core Specification 3.0, Validation, Table
 /// Instructions).
-#[tactic(auto, using(wasm_typing_checks::proofs::ActionSteps::acts, wasm_typing_checks::proofs::TypeLookups::types, crate::proofs::TableLookups::tables))]
+#[tactic(auto, using(crate::proofs::Cited::acts, crate::proofs::Cited::types, crate::proofs::TableLookups::tables))]
 pub fn table_get<A: Allocator, T: WasmModuleResources>(
     stacks: &mut Stacks<A>,
     resources: &T,
@@ -40,7 +40,7 @@ pub fn table_get<A: Allocator, T: WasmModuleResources>(
 
 /// `table.set`: takes an address, and an element on top (Core Specification 3.0, Validation, Table
 /// Instructions).
-#[tactic(auto, using(wasm_typing_checks::proofs::ActionSteps::acts, wasm_typing_checks::proofs::TypeLookups::types, crate::proofs::TableLookups::tables))]
+#[tactic(auto, using(crate::proofs::Cited::acts, crate::proofs::Cited::types, crate::proofs::TableLookups::tables))]
 pub fn table_set<A: Allocator, T: WasmModuleResources>(
     stacks: &mut Stacks<A>,
     resources: &T,
@@ -64,7 +64,7 @@ pub fn table_set<A: Allocator, T: WasmModuleResources>(
 
 /// `table.size`: gives a size, of the type of an address (Core Specification 3.0, Validation, Table
 /// Instructions).
-#[tactic(auto, using(wasm_typing_checks::proofs::ActionSteps::acts, wasm_typing_checks::proofs::TypeLookups::types, crate::proofs::TableLookups::tables))]
+#[tactic(auto, using(crate::proofs::Cited::acts, crate::proofs::Cited::types, crate::proofs::TableLookups::tables))]
 pub fn table_size<A: Allocator, T: WasmModuleResources>(
     stacks: &mut Stacks<A>,
     resources: &T,
@@ -88,7 +88,7 @@ pub fn table_size<A: Allocator, T: WasmModuleResources>(
 
 /// `table.grow`: takes an element, and a number of elements on top, and gives the size from before
 /// (Core Specification 3.0, Validation, Table Instructions).
-#[tactic(auto, using(wasm_typing_checks::proofs::ActionSteps::acts, wasm_typing_checks::proofs::TypeLookups::types, crate::proofs::TableLookups::tables))]
+#[tactic(auto, using(crate::proofs::Cited::acts, crate::proofs::Cited::types, crate::proofs::TableLookups::tables))]
 pub fn table_grow<A: Allocator, T: WasmModuleResources>(
     stacks: &mut Stacks<A>,
     resources: &T,
@@ -113,7 +113,7 @@ pub fn table_grow<A: Allocator, T: WasmModuleResources>(
 
 /// `table.fill`: takes an address, an element, and a number of elements on top (Core Specification
 /// 3.0, Validation, Table Instructions).
-#[tactic(auto, using(wasm_typing_checks::proofs::ActionSteps::acts, wasm_typing_checks::proofs::TypeLookups::types, crate::proofs::TableLookups::tables))]
+#[tactic(auto, using(crate::proofs::Cited::acts, crate::proofs::Cited::types, crate::proofs::TableLookups::tables))]
 pub fn table_fill<A: Allocator, T: WasmModuleResources>(
     stacks: &mut Stacks<A>,
     resources: &T,

@@ -17,7 +17,7 @@ use wasm_typing_checks::{OperatorError, OperatorFault, OperatorRule, Takes, ValT
 /// # Errors
 ///
 /// Refused without `WIDE_ARITHMETIC`, and where an operand isn't an `i64`.
-#[tactic(auto, using(wasm_typing_checks::proofs::ActionSteps::acts, wasm_typing_checks::proofs::TypeLookups::types))]
+#[tactic(auto, using(crate::proofs::Cited::acts, crate::proofs::Cited::types))]
 pub fn step_wide<A: Allocator, T: WasmModuleResources>(
     stacks: &mut Stacks<A>,
     resources: &T,
