@@ -54,8 +54,9 @@ fn peek_results<'a, A: Allocator, T: WasmModuleResources>(
     peek_types(stacks, resources, 0, types)
 }
 
-/// The end of a frame of a function type. That of an `if` is left to the general way, and so is one
-/// where it isn't seen at once that the operands are of the type.
+/// The end of a frame of a function type, or of one that gives a value which isn't on top. That of an
+/// `if` is left to the general way, and so is one where it isn't seen at once that the operands are
+/// of the type.
 #[cold]
 #[inline(never)]
 #[tactic(auto, using(crate::proofs::FastActions::acts, crate::proofs::FrameEnds::ends))]
@@ -74,9 +75,8 @@ fn end_typed<A: Allocator, T: WasmModuleResources>(
     if is_if(frame.kind) {
         return end_generally(stacks, resources);
     }
-    let types = match block_gives(resources, frame.block) {
-        Some(types) => types,
-        None => return Err(NotTaken::Left),
+    let Some(types) = block_gives(resources, frame.block) else {
+        return Err(NotTaken::Left);
     };
     let taken = match peek_results(stacks, resources, types) {
         Ok(taken) => taken,
@@ -124,12 +124,16 @@ pub(crate) fn end<A: Allocator, T: WasmModuleResources>(
             if is_if(stacks.frame.kind) {
                 return Err(NotTaken::Left);
             }
-            peek(stacks, resources, 0, ty)?;
-            if stacks.operands.len() - 1 != stacks.frame.height {
-                return Err(NotTaken::Left);
+            match peek(stacks, resources, 0, ty) {
+                Ok(()) => {
+                    if stacks.operands.len() - 1 != stacks.frame.height {
+                        return Err(NotTaken::Left);
+                    }
+                    stacks.close();
+                    Ok(())
+                }
+                Err(_) => end_typed(stacks, resources),
             }
-            stacks.close();
-            Ok(())
         }
         Block::Func(_) => end_typed(stacks, resources),
     }

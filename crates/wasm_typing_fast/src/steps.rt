@@ -80,32 +80,14 @@ fn step_structural<A: Allocator, T: WasmModuleResources>(
     match opcode {
         0x00 => trap(stacks, resources),
         0x01 => do_nothing(stacks, resources),
-        0x02 => {
-            let gives = next_block(reader)?;
-            open_block(stacks, resources, gives)
-        }
-        0x03 => {
-            let gives = next_block(reader)?;
-            open_loop(stacks, resources, gives)
-        }
-        0x04 => {
-            let gives = next_block(reader)?;
-            open_if(stacks, resources, gives)
-        }
+        0x02 => open_block(stacks, resources, next_block(reader)?),
+        0x03 => open_loop(stacks, resources, next_block(reader)?),
+        0x04 => open_if(stacks, resources, next_block(reader)?),
         0x0b => end(stacks, resources),
-        0x0c => {
-            let depth = next_index(reader)?;
-            branch_away(stacks, resources, depth)
-        }
-        0x0d => {
-            let depth = next_index(reader)?;
-            branch_perhaps(stacks, resources, depth)
-        }
+        0x0c => branch_away(stacks, resources, next_index(reader)?),
+        0x0d => branch_perhaps(stacks, resources, next_index(reader)?),
         0x0f => return_all(stacks, resources),
-        0x10 => {
-            let index = next_index(reader)?;
-            call_function(stacks, resources, index)
-        }
+        0x10 => call_function(stacks, resources, next_index(reader)?),
         0x11 => {
             let type_index = next_index(reader)?;
             let table_index = next_index(reader)?;
@@ -141,26 +123,11 @@ fn step_by_opcode<A: Allocator, T: WasmModuleResources>(
     ensures same { Kept stacks.old stacks.new }
 {
     match opcode {
-        0x20 => {
-            let index = next_index(reader)?;
-            local_get(stacks, resources, index)
-        }
-        0x21 => {
-            let index = next_index(reader)?;
-            local_set(stacks, resources, index)
-        }
-        0x22 => {
-            let index = next_index(reader)?;
-            local_tee(stacks, resources, index)
-        }
-        0x23 => {
-            let index = next_index(reader)?;
-            get_global(stacks, resources, index)
-        }
-        0x24 => {
-            let index = next_index(reader)?;
-            set_global(stacks, resources, index)
-        }
+        0x20 => local_get(stacks, resources, next_index(reader)?),
+        0x21 => local_set(stacks, resources, next_index(reader)?),
+        0x22 => local_tee(stacks, resources, next_index(reader)?),
+        0x23 => get_global(stacks, resources, next_index(reader)?),
+        0x24 => set_global(stacks, resources, next_index(reader)?),
         _ => step_structural(reader, stacks, resources, opcode),
     }
 }
