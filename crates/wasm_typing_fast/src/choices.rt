@@ -29,9 +29,25 @@ fn select_number<A: Allocator, T: WasmModuleResources>(
     Ok(())
 }
 
-/// `select` between two integers.
+/// `select` between two floats.
+#[cold]
+#[inline(never)]
+fn select_float<A: Allocator, T: WasmModuleResources>(
+    stacks: &mut Stacks<A>,
+    resources: &T,
+) -> Result<(), NotTaken>
+    ensures took { Performs result (T.context resources.now) choosing stacks.old stacks.new }
+    ensures same { Kept stacks.old stacks.new }
+{
+    match peek(stacks, resources, 1, TypeWord::number(NumberType::F32)) {
+        Ok(()) => select_number(stacks, resources, NumberType::F32),
+        Err(_) => select_number(stacks, resources, NumberType::F64),
+    }
+}
+
+/// `select` between two numbers of one type.
 #[inline(always)]
-pub(crate) fn select_integer<A: Allocator, T: WasmModuleResources>(
+pub(crate) fn select_of_two<A: Allocator, T: WasmModuleResources>(
     stacks: &mut Stacks<A>,
     resources: &T,
 ) -> Result<(), NotTaken>
@@ -40,7 +56,10 @@ pub(crate) fn select_integer<A: Allocator, T: WasmModuleResources>(
 {
     match peek(stacks, resources, 1, TypeWord::number(NumberType::I32)) {
         Ok(()) => select_number(stacks, resources, NumberType::I32),
-        Err(_) => select_number(stacks, resources, NumberType::I64),
+        Err(_) => match peek(stacks, resources, 1, TypeWord::number(NumberType::I64)) {
+            Ok(()) => select_number(stacks, resources, NumberType::I64),
+            Err(_) => select_float(stacks, resources),
+        },
     }
 }
 

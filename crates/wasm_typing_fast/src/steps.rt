@@ -10,7 +10,7 @@ use crate::accesses::access;
 use crate::blocks::{open_block, open_if, open_loop};
 use crate::branches::{branch_away, branch_perhaps, do_nothing, return_all, trap};
 use crate::calls::{call_function, call_in_table};
-use crate::choices::{drop_one, select_integer};
+use crate::choices::{drop_one, select_of_two};
 use crate::ends::end;
 use crate::globals::{get_global, set_global};
 use crate::immediates::{next_block, next_byte, next_index, next_memarg, pass_i32, pass_i64};
@@ -94,7 +94,7 @@ fn step_structural<A: Allocator, T: WasmModuleResources>(
             call_in_table(stacks, resources, type_index, table_index)
         }
         0x1a => drop_one(stacks, resources),
-        0x1b => select_integer(stacks, resources),
+        0x1b => select_of_two(stacks, resources),
         0x41 => {
             pass_i32(reader)?;
             constant(stacks, resources, NumberType::I32)
