@@ -149,10 +149,14 @@ fn pass_eight_bits(reader: &mut BinaryReader) -> Result<(), NotTaken>
     Err(NotTaken::Left)
 }
 
-/// Passes a signed number of 32 bits.
+/// Passes a signed number of 32 bits, if it is next.
+///
+/// # Errors
+///
+/// Where it isn't. The reader may stand further on then.
 #[inline(always)]
 #[tactic(auto, using(crate::proofs::NumberBytes::wholes))]
-pub(crate) fn pass_i32(reader: &mut BinaryReader) -> Result<(), NotTaken>
+pub fn pass_i32(reader: &mut BinaryReader) -> Result<(), NotTaken>
     ensures same { SameInput reader.old reader.new }
     ensures onward { position_in reader.old ≤ position_in reader.new }
     ensures ok { OnOk result (behind_signed 32 (rest reader.old) ≡ Some (rest reader.new)) }
@@ -163,10 +167,14 @@ pub(crate) fn pass_i32(reader: &mut BinaryReader) -> Result<(), NotTaken>
     pass_four_bits(reader)
 }
 
-/// Passes a signed number of 64 bits.
+/// Passes a signed number of 64 bits, if it is next.
+///
+/// # Errors
+///
+/// Where it isn't. The reader may stand further on then.
 #[inline(always)]
 #[tactic(auto, using(crate::proofs::NumberBytes::wholes))]
-pub(crate) fn pass_i64(reader: &mut BinaryReader) -> Result<(), NotTaken>
+pub fn pass_i64(reader: &mut BinaryReader) -> Result<(), NotTaken>
     ensures same { SameInput reader.old reader.new }
     ensures onward { position_in reader.old ≤ position_in reader.new }
     ensures ok { OnOk result (behind_signed 64 (rest reader.old) ≡ Some (rest reader.new)) }

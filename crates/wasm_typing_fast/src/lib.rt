@@ -14,6 +14,7 @@ mod locals;
 mod numbers;
 mod steps;
 
+pub use immediates::{pass_i32, pass_i64};
 pub use steps::fast_step;
 pub use wasm_typing_control::NotTaken;
 

@@ -20,6 +20,9 @@ pub use references_alone::{KnownReferences, pass_reference};
 /// What constant expressions are validated by.
 pub use wasm_typing_validator::{OperatorValidator, OperatorValidatorAllocations};
 
+/// What goes past the number of a constant.
+pub use wasm_typing_validator::{pass_i32, pass_i64};
+
 /// Passed on from `wasm_validator_references`.
 pub mod references {
     pub use wasm_validator_references::{NoNotes, NotesFunctions, ReferencedFunctions};

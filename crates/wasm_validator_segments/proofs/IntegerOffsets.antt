@@ -1,5 +1,6 @@
 -- An integer alone is a constant expression of its type, whatever the module.
-use Rattle.std.proofs.Common.{◌≡◌, refl, sym, ap, ◌∙◌, ℕ, ℤ, true, List, [], ◌∷◌, Some, None}
+use Rattle.std.proofs.Common.{◌≡◌, refl, sym, ap, ◌∙◌, ℕ, ℤ, true, List, [], ◌∷◌, Option, Some, None}
+use Rattle.std.specs.Option.{option_map}
 use Rattle.std.specs.List.{flat_map}
 use Rattle.std.proofs.lemmas.List.Elements.{All-nil, All-cons}
 use Rattle.wasm_spec.specs.Syntax.{Val, i32, i64}
@@ -17,6 +18,7 @@ use Rattle.wasm_spec_steps.specs.ConstantRules.{is_allowed}
 use Rattle.wasm_spec_steps.specs.Machine.{State, known}
 use Rattle.wasm_spec_steps.specs.Steps.{start, steps_in}
 use Rattle.wasm_validator_resources.specs.Answers.{world}
+use Rattle.wasm_validator_constants.specs.SignedNumbers.{behind_signed}
 use Rattle.wasm_validator_constants.specs.WasmValidatorReferences.WasmSpecValidity.Expressions.{functions_named, named}
 use Rattle.wasm_validator_constants.specs.WasmValidatorReferences.References.{names_if, names_of_expression}
 use Rattle.wasm_validator_constants.proofs.WasmValidatorReferences.WasmSpecValidity.ExpressionNames.{named_as_typed}
@@ -54,22 +56,35 @@ module _ (C : Context UnpackedIndex) (F : Features) (imported : ℕ) where
     };
   }
 
-module _ (b : ℕ) (bytes second third more : List ℕ) (n : ℤ) where
-  read_i32 : bytes ≡ b ∷ second → b ≡ 0x41 → signed_at 32 second ≡ Some (n, third) → instruction_at (λ n. n) bytes ≡ Some (constant (I32Const n), third)
+module _ (b : ℕ) (bytes second third more : List ℕ) where
+  read_i32 : (n : ℤ) → bytes ≡ b ∷ second → b ≡ 0x41 → signed_at 32 second ≡ Some (n, third) → instruction_at (λ n. n) bytes ≡ Some (constant (I32Const n), third)
   unfolding instruction_at plain_from constant_from
-  read_i32 e f r = rw (e, f, r) refl
+  read_i32 n e f r = rw (e, f, r) refl
 
-  read_i64 : bytes ≡ b ∷ second → b ≡ 0x42 → signed_at 64 second ≡ Some (n, third) → instruction_at (λ n. n) bytes ≡ Some (constant (I64Const n), third)
+  read_i64 : (n : ℤ) → bytes ≡ b ∷ second → b ≡ 0x42 → signed_at 64 second ≡ Some (n, third) → instruction_at (λ n. n) bytes ≡ Some (constant (I64Const n), third)
   unfolding instruction_at plain_from constant_from
-  read_i64 e f r = rw (e, f, r) refl
+  read_i64 n e f r = rw (e, f, r) refl
 
-  pub i32_anywhere : bytes ≡ b ∷ second → b ≡ 0x41 → signed_at 32 second ≡ Some (n, third) → instruction_at (λ n. n) third ≡ Some (control end_, more) → IsAnywhere i32 bytes more
+  -- the number that was passed
+  some_number : (bits : ℕ) (o : Option (ℤ × List ℕ)) → signed_at bits second ≡ o → option_map (λ n. n.1) o ≡ Some third → (n : ℤ) × (signed_at bits second ≡ Some (n, third))
+  some_number bits None e f = absurd cc
+  some_number bits (Some n) e f =
+      let same : n.1 ≡ third = cc in
+      (n.0, rw (← same) e)
+
+  number : (bits : ℕ) → behind_signed bits second ≡ Some third → (n : ℤ) × (signed_at bits second ≡ Some (n, third))
+  unfolding behind_signed
+  number bits r = some_number bits (signed_at bits second) refl r
+
+  pub i32_anywhere : bytes ≡ b ∷ second → b ≡ 0x41 → behind_signed 32 second ≡ Some third → instruction_at (λ n. n) third ≡ Some (control end_, more) → IsAnywhere i32 bytes more
   i32_anywhere e f r g C F imported =
-      (are_found C F imported i32 bytes more).1 (is_expression C F imported (I32Const n) i32 bytes third more (read_i32 e f r) g (i32_typed C F imported n))
+      let n = number 32 r in
+      (are_found C F imported i32 bytes more).1 (is_expression C F imported (I32Const n.0) i32 bytes third more (read_i32 n.0 e f n.1) g (i32_typed C F imported n.0))
 
-  pub i64_anywhere : bytes ≡ b ∷ second → b ≡ 0x42 → signed_at 64 second ≡ Some (n, third) → instruction_at (λ n. n) third ≡ Some (control end_, more) → IsAnywhere i64 bytes more
+  pub i64_anywhere : bytes ≡ b ∷ second → b ≡ 0x42 → behind_signed 64 second ≡ Some third → instruction_at (λ n. n) third ≡ Some (control end_, more) → IsAnywhere i64 bytes more
   i64_anywhere e f r g C F imported =
-      (are_found C F imported i64 bytes more).1 (is_expression C F imported (I64Const n) i64 bytes third more (read_i64 e f r) g (i64_typed C F imported n))
+      let n = number 64 r in
+      (are_found C F imported i64 bytes more).1 (is_expression C F imported (I64Const n.0) i64 bytes third more (read_i64 n.0 e f n.1) g (i64_typed C F imported n.0))
 
 -- no module at all
 abbrev nowhere : Context UnpackedIndex
@@ -80,15 +95,17 @@ names_nothing op v bytes more x e =
     let n = named_as_typed (world nowhere) (around_constants nowhere (features true)) 0 v bytes x.last more x.is in
     ap (names_if named) n.1 ∙ sym n.2 ∙ e
 
-module _ (b : ℕ) (bytes second third more : List ℕ) (n : ℤ) where
-  pub i32_nameless : bytes ≡ b ∷ second → b ≡ 0x41 → signed_at 32 second ≡ Some (n, third) → instruction_at (λ n. n) third ≡ Some (control end_, more) → names_of_expression bytes ≡ []
+module _ (b : ℕ) (bytes second third more : List ℕ) where
+  pub i32_nameless : bytes ≡ b ∷ second → b ≡ 0x41 → behind_signed 32 second ≡ Some third → instruction_at (λ n. n) third ≡ Some (control end_, more) → names_of_expression bytes ≡ []
   unfolding is_expression
   i32_nameless e f r g =
-      names_nothing (I32Const n) i32 bytes more (is_expression nowhere (features true) 0 (I32Const n) i32 bytes third more (read_i32 b bytes second third more n e f r) g (i32_typed nowhere (features true) 0 n)) refl
+      let n = number b bytes second third more 32 r in
+      names_nothing (I32Const n.0) i32 bytes more (is_expression nowhere (features true) 0 (I32Const n.0) i32 bytes third more (read_i32 b bytes second third more n.0 e f n.1) g (i32_typed nowhere (features true) 0 n.0)) refl
 
-  pub i64_nameless : bytes ≡ b ∷ second → b ≡ 0x42 → signed_at 64 second ≡ Some (n, third) → instruction_at (λ n. n) third ≡ Some (control end_, more) → names_of_expression bytes ≡ []
+  pub i64_nameless : bytes ≡ b ∷ second → b ≡ 0x42 → behind_signed 64 second ≡ Some third → instruction_at (λ n. n) third ≡ Some (control end_, more) → names_of_expression bytes ≡ []
   unfolding is_expression
   i64_nameless e f r g =
-      names_nothing (I64Const n) i64 bytes more (is_expression nowhere (features true) 0 (I64Const n) i64 bytes third more (read_i64 b bytes second third more n e f r) g (i64_typed nowhere (features true) 0 n)) refl
+      let n = number b bytes second third more 64 r in
+      names_nothing (I64Const n.0) i64 bytes more (is_expression nowhere (features true) 0 (I64Const n.0) i64 bytes third more (read_i64 b bytes second third more n.0 e f n.1) g (i64_typed nowhere (features true) 0 n.0)) refl
 
 pub ruleset anywhere = (i32_anywhere, i64_anywhere, i32_nameless, i64_nameless)

@@ -1,4 +1,4 @@
-//! Constant expressions of one integer.
+//! Constant expressions of one integer, whose number is passed and not read.
 
 ghost use Rattle.std.specs.Prelude.{◌≡◌, ◌≤◌, [], OnSome};
 ghost use Rattle.wasm_spec.specs.Syntax.{i32, i64};
@@ -9,7 +9,7 @@ ghost use Rattle.wasm_validator_segments.specs.Numbers.{IsAnywhere};
 
 use wasm_readers::BinaryReader;
 use wasm_readers_types::ValType;
-use wasm_validator_constants::next_end;
+use wasm_validator_constants::{next_end, pass_i32, pass_i64};
 
 /// Goes past a constant expression of one integer of 32 bits, if it is next. Else the reader may
 /// stand further on.
@@ -24,8 +24,10 @@ fn next_i32(reader: &mut BinaryReader<'_>) -> Option<()>
     if reader.next_u8()? != 0x41 {
         return None;
     }
-    reader.next_var_i32()?;
-    next_end(reader)
+    match pass_i32(reader) {
+        Ok(()) => next_end(reader),
+        Err(_) => None,
+    }
 }
 
 /// Goes past a constant expression of one integer of 64 bits, if it is next. Else the reader may
@@ -41,8 +43,10 @@ fn next_i64(reader: &mut BinaryReader<'_>) -> Option<()>
     if reader.next_u8()? != 0x42 {
         return None;
     }
-    reader.next_var_i64()?;
-    next_end(reader)
+    match pass_i64(reader) {
+        Ok(()) => next_end(reader),
+        Err(_) => None,
+    }
 }
 
 /// Goes past a constant expression of one integer of this type, if it is next. Else the reader may
