@@ -322,6 +322,9 @@ def limits():
                  wanted='ok' if ok else 'refused %d too many locals: locals exceed maximum' % (body_start(bytes) + ahead))
     asked('the last of 50,000 locals', '', ty='->', told=None, post=replaced(W.listed([W.unsigned(50000) + b'\x7f']) + W.operators('local.get 49999; drop') + b'\x0b'))
     asked('the one behind the last of 50,000 locals', '', ty='->', post=replaced(W.listed([W.unsigned(50000) + b'\x7f']) + W.operators('local.get 50000; drop') + b'\x0b'))
+    # one local behind so many that they stand in a run, of another type than those
+    raw = W.listed([W.unsigned(2000) + b'\x7f', W.unsigned(1) + b'\x7e']) + W.operators('local.get 1999; i32.eqz; drop; local.get 2000; i64.eqz; drop') + b'\x0b'
+    case('a local behind 2,000 of another type', with_body(raw), wanted='ok')
     # a list of 2^32 - 1 locals, which two lists pass
     bytes = with_body(W.listed([W.unsigned(0xffffffff) + b'\x7f']) + b'\x0b')
     case('4,294,967,295 locals', bytes, wanted='refused %d too many locals: locals exceed maximum' % (body_start(bytes) + 1))

@@ -24,15 +24,12 @@ fn front_after(len: usize, behind: u32, count: u32) -> usize
     ensures most { result ≤ len + count }
     ensures alone { 0 < behind → result ≡ len }
 {
-    if behind == 0 && len < FRONT {
-        let room = FRONT - len;
-        if count as usize <= room {
-            len + count as usize
-        } else {
-            FRONT
-        }
-    } else {
+    if behind > 0 || len >= FRONT {
         len
+    } else if count as usize <= FRONT - len {
+        len + count as usize
+    } else {
+        FRONT
     }
 }
 
@@ -141,6 +138,10 @@ impl<A: Allocator> Locals<A> {
     {
         let len = self.front.len();
         let wanted = front_after(len, self.behind.len(), count);
+        if count == 1 && wanted > len {
+            self.front.push(local)?;
+            return Ok(());
+        }
         self.front.resize(wanted, local)?;
         let left = count - (wanted - len) as u32;
         if left == 0 {
