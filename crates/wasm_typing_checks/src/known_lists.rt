@@ -85,6 +85,7 @@ fn eight_more(operands: &[Word], types: &[ValType], at: usize) -> bool
 
 /// Whether the operands from one place to another, behind those in front, are known to be of their
 /// types.
+#[inline(always)]
 #[tactic(auto, using(crate::proofs::KnownLists::places))]
 fn each_more(operands: &[Word], types: &[ValType], from: usize, to: usize) -> bool
     requires order { from ≤ to }
