@@ -11,47 +11,35 @@ use wasm_validator_resources::readers_types::ValType;
 
 /// Whether a type is the same as another.
 #[inline(always)]
-fn is_same_type(ty: ValType, other: ValType) -> bool
-    ensures { result ≡ true → val_of ty ≡ val_of other }
+fn is_same_type(ty: &ValType, other: &ValType) -> bool
+    ensures { result ≡ true → val_of ty.now ≡ val_of other.now }
 {
-    ty == other
+    *ty == *other
 }
 
-/// A type and another that it matches.
-#[derive(Clone, Copy)]
-struct MatchedTypes {
-    ty: ValType,
-    other: ValType,
-}
-
-/// Whether a type matches another. One and the same, and the two that matched last, aren't looked up
-/// in the list of types again.
+/// Whether a type matches another. Those that are the same as two that match, and one and the same,
+/// aren't looked up in the list of types. They are compared where they stand.
 #[inline(always)]
 #[tactic(auto, using(crate::proofs::OperandMatches::same_types))]
 fn match_next<T: WasmModuleResources>(
     resources: &T,
-    ty: ValType,
-    other: ValType,
-    last: &mut MatchedTypes,
+    ty: &ValType,
+    other: &ValType,
+    last: &ValType,
+    last_other: &ValType,
 ) -> bool
-    requires { matches_val (world (T.context resources.now)) (val_of last.old.ty)
-        (val_of last.old.other) ≡ true }
-    ensures decided { result ≡ matches_val (world (T.context resources.now)) (val_of ty)
-        (val_of other) }
-    ensures kept { matches_val (world (T.context resources.now)) (val_of last.new.ty)
-        (val_of last.new.other) ≡ true }
+    requires { matches_val (world (T.context resources.now)) (val_of last.now)
+        (val_of last_other.now) ≡ true }
+    ensures { result ≡ matches_val (world (T.context resources.now)) (val_of ty.now)
+        (val_of other.now) }
 {
+    if is_same_type(ty, last) && is_same_type(other, last_other) {
+        return true;
+    }
     if is_same_type(ty, other) {
         return true;
     }
-    if is_same_type(ty, last.ty) && is_same_type(other, last.other) {
-        return true;
-    }
-    if resources.is_subtype(ty, other) {
-        *last = MatchedTypes { ty, other };
-        return true;
-    }
-    false
+    resources.is_subtype(*ty, *other)
 }
 
 /// Whether these types match those, place by place, and are equally many.
@@ -67,12 +55,18 @@ pub fn match_all<T: WasmModuleResources>(
     if types.len() != others.len() {
         return false;
     }
-    let mut last = MatchedTypes {
-        ty: ValType::I32,
-        other: ValType::I32,
-    };
-    'matching: for i in 0..types.len() {
-        if !match_next(resources, types[i], others[i], &mut last) {
+    if types.is_empty() {
+        return true;
+    }
+    // a type matches itself
+    let number = ValType::I32;
+    if !match_next(resources, &types[0], &others[0], &number, &number) {
+        return false;
+    }
+    'matching: for i in 1..types.len() {
+        let last = &types[i - 1];
+        let last_other = &others[i - 1];
+        if !match_next(resources, &types[i], &others[i], last, last_other) {
             return false;
         }
     }

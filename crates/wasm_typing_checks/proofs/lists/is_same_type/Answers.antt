@@ -6,5 +6,5 @@ use Rattle.wasm_typing_checks.proofs.lists.is_same_type.Goals as goal
 
 pub returns : goal.returns
 returns c =
-    let h : Decides c.eq.result (c.args.ty ≡ c.args.other) = rw c.eq.ensures (val-exact c.args.ty c.args.other) in
+    let h : Decides c.eq.result (c.args.ty.now ≡ c.args.other.now) = rw c.eq.ensures (val-exact c.args.ty.now c.args.other.now) in
     λ e. ap val_of (h.0 e)
