@@ -13,8 +13,10 @@ mod immediates;
 mod locals;
 mod numbers;
 mod steps;
+mod told;
 
-pub use steps::fast_step;
+pub use steps::{fast_step, told_step};
+pub use told::Told;
 pub use wasm_typing_control::NotTaken;
 
 /// Passed on from `wasm_typing_numbers`.

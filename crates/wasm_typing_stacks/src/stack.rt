@@ -43,6 +43,17 @@ impl<T: Copy + Drop, A: Allocator> Stack<T, A> {
         self.count
     }
 
+    /// The greatest number of items since it was emptied by `forget`: as many places as there are.
+    pub fn greatest(&self) -> usize {
+        self.vec.len()
+    }
+
+    /// Takes all items and all places, so that `greatest` counts from here.
+    pub fn forget(&mut self) {
+        self.vec.truncate(0);
+        self.count = 0;
+    }
+
     /// The item at this depth, the top at 0.
     #[inline(always)]
     #[tactic(auto, using(crate::proofs::ReversedLists::stacks))]

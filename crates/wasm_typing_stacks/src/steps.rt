@@ -151,11 +151,16 @@ impl<A: Allocator> Stacks<A> {
         ensures open { self.new.is_open ≡ self.old.is_open }
         ensures same { Kept self.old self.new }
     {
-        self.push_many(types)?;
-        if taken > 0 {
-            self.operands.sink(types.len(), taken);
+        if taken == 0 {
+            return self.push_many(types);
         }
-        Ok(())
+        // No more places than there are operands in the end, so that the greatest number is right.
+        let count = self.operands.len() - taken;
+        if taken < types.len() {
+            self.push_many(&types[taken..types.len()])?;
+        }
+        self.operands.truncate(count);
+        push_each(&mut self.operands, types)
     }
 
     /// Opens a frame over all operands. Where memory is refused, all stays.

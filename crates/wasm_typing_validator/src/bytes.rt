@@ -12,7 +12,7 @@ ghost use Rattle.wasm_typing_validator.specs.TypedInstructions.{StandsIn};
 ghost use Rattle.wasm_typing_validator.specs.StepsFromBytes.{ReadsStep, stepped};
 ghost use Rattle.wasm_typing_validator.specs.ValidatorFailures.{EndsReading};
 
-use crate::labels::table_step;
+use crate::labels::{NotesLabels, step_noting, table_step};
 use crate::seldom::{is_seldom, next_float, next_seldom};
 use crate::steps::step;
 use crate::validator::OperatorValidator;
@@ -24,7 +24,7 @@ use wasm_typing_blocks::typing_checks::OperatorError;
 use wasm_typing_blocks::typing_stacks::Stacks;
 use wasm_typing_blocks::validator_resources::WasmModuleResources;
 use wasm_typing_fast::typing_numbers::constant;
-use wasm_typing_fast::{NotTaken, fast_step};
+use wasm_typing_fast::{NotTaken, Told, fast_step, told_step};
 
 /// Reads the next operator and takes its step, where it is one that compilers write less often. Where
 /// that isn't done the reader may stand further on.
@@ -160,6 +160,51 @@ impl<A: Allocator> OperatorValidator<A> {
             },
             Err(NotTaken::OutOfMemory) => Err(NotTaken::OutOfMemory),
         }
+    }
+
+    /// As [`OperatorValidator::fast_op`] of the most frequent operators, and tells what a side table
+    /// notes of it.
+    ///
+    /// # Errors
+    ///
+    /// As [`OperatorValidator::frequent_op`].
+    #[inline(always)]
+    pub fn told_op<'a, T: WasmModuleResources>(
+        &mut self,
+        resources: &T,
+        reader: &mut BinaryReader<'a>,
+    ) -> Result<Told, NotTaken> {
+        told_step(reader, &mut self.stacks, resources)
+    }
+
+    /// As [`OperatorValidator::fast_op`] of those that [`OperatorValidator::told_op`] leaves.
+    ///
+    /// # Errors
+    ///
+    /// As [`OperatorValidator::frequent_op`].
+    #[inline(always)]
+    pub fn other_op<'a, T: WasmModuleResources>(
+        &mut self,
+        resources: &T,
+        reader: &mut BinaryReader<'a>,
+    ) -> Result<(), NotTaken> {
+        step_otherwise(reader, &mut self.stacks, resources)
+    }
+
+    /// A `br_table` whose labels take nothing, each noted.
+    ///
+    /// # Errors
+    ///
+    /// As [`OperatorValidator::frequent_op`].
+    #[inline(always)]
+    pub fn table_op<'a, T: WasmModuleResources, N: NotesLabels>(
+        &mut self,
+        resources: &T,
+        reader: &mut BinaryReader<'a>,
+        notes: &mut N,
+        at: u32,
+    ) -> Result<(), NotTaken> {
+        step_noting(reader, &mut self.stacks, resources, notes, at)
     }
 
     /// Reads the next operator and takes its step, where it is a frequent one, its operands are of

@@ -146,3 +146,79 @@ pub(crate) fn table_step<'a, A: Allocator, T: WasmModuleResources>(
         Err(error) => Err(error),
     }
 }
+
+/// Who notes the labels of a `br_table`.
+pub trait NotesLabels {
+    /// Notes a branch from this offset to this label, which takes nothing and drops so many operands.
+    fn note_label(&mut self, at: u32, depth: u32, dropped: usize) -> bool;
+}
+
+/// The next label, where a branch to it takes nothing, and how many operands stand below its frame.
+#[inline(always)]
+fn next_height<A: Allocator>(reader: &mut BinaryReader, stacks: &Stacks<A>) -> Option<(u32, usize)> {
+    match reader.next_var_u32() {
+        Some(depth) => match frame_at(stacks, depth as usize) {
+            Some(frame) => match frame.block.seen() {
+                Block::Empty => Some((depth, frame.height)),
+                Block::Value(_) | Block::Func(_) => None,
+            },
+            None => None,
+        },
+        None => None,
+    }
+}
+
+/// Passes so many labels and one more, and notes each.
+#[inline(always)]
+fn note_labels<A: Allocator, N: NotesLabels>(
+    reader: &mut BinaryReader,
+    stacks: &Stacks<A>,
+    count: u32,
+    notes: &mut N,
+    at: u32,
+) -> Result<(), NotTaken> {
+    let mut ahead = *reader;
+    let operands = stacks.operands.len().saturating_sub(1);
+    let mut left = count as usize + 1;
+    'passing: while left > 0 {
+        let Some((depth, height)) = next_height(&mut ahead, stacks) else {
+            return Err(NotTaken::Left);
+        };
+        if !notes.note_label(at, depth, operands.saturating_sub(height)) {
+            return Err(NotTaken::Left);
+        }
+        left -= 1;
+    }
+    reader.go_on_from(&ahead);
+    Ok(())
+}
+
+/// As `step_by_labels`, and notes the labels. Where that isn't done some may be noted.
+#[inline(never)]
+pub(crate) fn step_noting<'a, A: Allocator, T: WasmModuleResources, N: NotesLabels>(
+    reader: &mut BinaryReader<'a>,
+    stacks: &mut Stacks<A>,
+    resources: &T,
+    notes: &mut N,
+    at: u32,
+) -> Result<(), NotTaken> {
+    if !stacks.is_open {
+        return Err(NotTaken::Left);
+    }
+    let opcode = match reader.next_u8() {
+        Some(opcode) => opcode,
+        None => return Err(NotTaken::Left),
+    };
+    if opcode != 0x0e {
+        return Err(NotTaken::Left);
+    }
+    peek(stacks, resources, 0, TypeWord::number(NumberType::I32))?;
+    let count = match reader.next_var_u32() {
+        Some(count) => count,
+        None => return Err(NotTaken::Left),
+    };
+    note_labels(reader, stacks, count, notes, at)?;
+    stacks.take(1);
+    stacks.stop();
+    Ok(())
+}

@@ -22,5 +22,6 @@ pub use wasm_typing_arity::{
 };
 pub use wasm_typing_blocks::typing_checks::{OperatorError, OperatorFault};
 pub use wasm_typing_blocks::typing_stacks::{MAX_LOCALS, Operand, TypeWord, Word};
-pub use wasm_typing_fast::NotTaken;
+pub use labels::NotesLabels;
+pub use wasm_typing_fast::{NotTaken, Told};
 pub use written_types::{is_written_operator, is_written_type};

@@ -12,7 +12,7 @@ use wasm_operators::{BlockType, FrameKind};
 use wasm_readers::readers_errors::WasmFeatures;
 use wasm_readers_types::ValType;
 use wasm_typing_blocks::typing_stacks::Operand;
-use wasm_typing_fast::typing_control::frame_at;
+use wasm_typing_fast::typing_control::{Block, frame_at};
 
 /// A control frame (Core Specification 3.0, Appendix, Validation Algorithm): what opened it, its
 /// block type, how many operands stood below and how many locals had been set before it, and
@@ -71,6 +71,45 @@ impl<A: Allocator> OperatorValidator<A> {
         ensures many { 2 ^ 32 ≤ length (typed_state self.now).operands → result ≡ 2 ^ 32 - 1 }
     {
         as_far_as_counted(self.stacks.operands.len())
+    }
+
+    /// How many operands there are.
+    #[inline(always)]
+    pub fn len_operands(&self) -> usize {
+        self.stacks.operands.len()
+    }
+
+    /// How many operands there were at most since [`OperatorValidator::forget_operands`].
+    pub fn greatest_operands(&self) -> usize {
+        self.stacks.operands.greatest()
+    }
+
+    /// Takes all operands, and counts the greatest number from here.
+    pub fn forget_operands(&mut self) {
+        self.stacks.operands.forget()
+    }
+
+    /// How many operands a branch to this label gives it, and how many stand below its frame, where
+    /// its block has no function type.
+    #[inline(always)]
+    pub fn plain_label(&self, depth: u32) -> Option<(usize, usize)> {
+        match frame_at(&self.stacks, depth as usize) {
+            Some(frame) => match frame.block.seen() {
+                Block::Empty => Some((0, frame.height)),
+                Block::Value(_) => match frame.kind {
+                    FrameKind::Loop => Some((0, frame.height)),
+                    FrameKind::Block
+                    | FrameKind::If
+                    | FrameKind::Else
+                    | FrameKind::TryTable
+                    | FrameKind::LegacyTry
+                    | FrameKind::LegacyCatch
+                    | FrameKind::LegacyCatchAll => Some((1, frame.height)),
+                },
+                Block::Func(_) => None,
+            },
+            None => None,
+        }
     }
 
     /// The type of the operand at this depth, the top at 0: nothing where there is no such

@@ -10,7 +10,7 @@ ghost use Rattle.wasm_typing_validator.specs.StepsFromBytes.{stepped};
 use crate::func_validator::FuncValidator;
 use std::alloc::Allocator;
 use wasm_readers::BinaryReader;
-use wasm_typing_validator::NotTaken;
+use wasm_typing_validator::{NotTaken, NotesLabels, Told};
 use wasm_validator_resources::WasmModuleResources;
 
 impl<T: WasmModuleResources, A: Allocator> FuncValidator<T, A> {
@@ -67,6 +67,65 @@ impl<T: WasmModuleResources, A: Allocator> FuncValidator<T, A> {
         ensures failed { self.new.validator.failed ≡ false }
     {
         self.validator.fast_op(&self.resources, reader)
+    }
+
+    /// As [`FuncValidator::fast_op`] of the most frequent operators, and tells what a side table notes
+    /// of it.
+    ///
+    /// # Errors
+    ///
+    /// As [`FuncValidator::frequent_op`].
+    #[inline(always)]
+    pub fn told_op<'a>(&mut self, reader: &mut BinaryReader<'a>) -> Result<Told, NotTaken> {
+        self.validator.told_op(&self.resources, reader)
+    }
+
+    /// As [`FuncValidator::fast_op`] of those that [`FuncValidator::told_op`] leaves.
+    ///
+    /// # Errors
+    ///
+    /// As [`FuncValidator::frequent_op`].
+    #[inline(always)]
+    pub fn other_op<'a>(&mut self, reader: &mut BinaryReader<'a>) -> Result<(), NotTaken> {
+        self.validator.other_op(&self.resources, reader)
+    }
+
+    /// A `br_table` whose labels take nothing, each noted.
+    ///
+    /// # Errors
+    ///
+    /// As [`FuncValidator::frequent_op`].
+    #[inline(always)]
+    pub fn table_op<'a, N: NotesLabels>(
+        &mut self,
+        reader: &mut BinaryReader<'a>,
+        notes: &mut N,
+        at: u32,
+    ) -> Result<(), NotTaken> {
+        self.validator.table_op(&self.resources, reader, notes, at)
+    }
+
+    /// How many operands there are.
+    #[inline(always)]
+    pub fn len_operands(&self) -> usize {
+        self.validator.len_operands()
+    }
+
+    /// How many operands there were at most since [`FuncValidator::forget_operands`].
+    pub fn greatest_operands(&self) -> usize {
+        self.validator.greatest_operands()
+    }
+
+    /// Takes all operands, and counts the greatest number from here.
+    pub fn forget_operands(&mut self) {
+        self.validator.forget_operands()
+    }
+
+    /// How many operands a branch to this label gives it, and how many stand below its frame, where
+    /// its block has no function type.
+    #[inline(always)]
+    pub fn plain_label(&self, depth: u32) -> Option<(usize, usize)> {
+        self.validator.plain_label(depth)
     }
 
     /// Whether every frame has ended.

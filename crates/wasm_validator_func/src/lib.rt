@@ -19,6 +19,7 @@ pub use func_validator::{FuncToValidate, FuncValidator, FuncValidatorAllocations
 pub use labels::block_arity;
 pub use laws::bodies_are_declarations_and_instructions;
 pub use next_operator::{read_operator, read_served};
+pub use wasm_typing_validator::{NotTaken, NotesLabels, Told};
 
 /// Passed on from `wasm_operators`.
 pub mod operators {

@@ -30,7 +30,7 @@ use wasm_validator_func::{FuncToValidate, FuncValidator, FuncValidatorAllocation
 use wasm_validator_resources::WasmModuleResources;
 
 /// The refusal of bytes behind the end of a body, at the first of them.
-fn behind_end(offset: u64) -> Error
+pub(crate) fn behind_end(offset: u64) -> Error
     ensures { IsRefusedAt offset result }
 {
     Error::Refused(Refusal::new(Fault::Operator(OperatorRule::Ended, 0), offset))
@@ -65,7 +65,7 @@ impl<A: Allocator> SideTable<A> {
 
     /// Notes the next operator, and lets the validator take its step.
     #[tactic(auto, using(crate::proofs::NextInstructions::advancing))]
-    fn read_one<'a, T: WasmModuleResources, B: Allocator>(
+    pub(crate) fn read_one<'a, T: WasmModuleResources, B: Allocator>(
         &mut self,
         validator: &mut FuncValidator<T, B>,
         reader: &mut BinaryReader<'a>,
@@ -202,7 +202,7 @@ impl<A: Allocator> SideTable<A> {
 }
 
 /// The greatest offset that an entry may have.
-const MOST: u64 = 4_294_967_295;
+pub(crate) const MOST: u64 = 4_294_967_295;
 
 /// Validates a body, and makes its table where the offset behind it is one that an entry may have.
 #[tactic(auto, using(crate::proofs::WholeTables::answers))]

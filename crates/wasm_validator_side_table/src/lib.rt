@@ -12,10 +12,18 @@ mod fast;
 mod frequent;
 mod handlers;
 mod notes;
+mod others;
+mod proto;
+mod quick;
+mod quick_body;
 mod table;
+mod told;
 
 pub use body::validate_with_side_table;
 pub use error::SideTableError;
+pub use proto::validate_with_proto;
+pub use quick::QuickTable;
+pub use quick_body::validate_with_quick;
 pub use table::SideTable;
 
 /// Passed on from `wasm_spec_side_tables`.
