@@ -15,7 +15,7 @@ mod numbers;
 mod steps;
 mod told;
 
-pub use steps::{fast_step, told_step};
+pub use steps::{coded_step, fast_step, told_step};
 pub use told::Told;
 pub use wasm_typing_control::NotTaken;
 

@@ -286,3 +286,28 @@ pub fn fast_step<A: Allocator, T: WasmModuleResources>(
         Err(error) => Err(error),
     }
 }
+
+/// As [`fast_step`], and answers the first byte of the operator.
+///
+/// # Errors
+///
+/// As [`fast_step`].
+#[inline(always)]
+pub fn coded_step<A: Allocator, T: WasmModuleResources>(
+    reader: &mut BinaryReader,
+    stacks: &mut Stacks<A>,
+    resources: &T,
+) -> Result<u8, NotTaken> {
+    if !stacks.is_open {
+        return Err(NotTaken::Left);
+    }
+    let mut ahead = *reader;
+    let opcode = next_byte(&mut ahead)?;
+    match step_by_opcode(&mut ahead, stacks, resources, opcode) {
+        Ok(_) => {
+            reader.go_on_from(&ahead);
+            Ok(opcode)
+        }
+        Err(error) => Err(error),
+    }
+}

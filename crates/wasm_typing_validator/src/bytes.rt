@@ -24,7 +24,7 @@ use wasm_typing_blocks::typing_checks::OperatorError;
 use wasm_typing_blocks::typing_stacks::Stacks;
 use wasm_typing_blocks::validator_resources::WasmModuleResources;
 use wasm_typing_fast::typing_numbers::constant;
-use wasm_typing_fast::{NotTaken, Told, fast_step, told_step};
+use wasm_typing_fast::{NotTaken, Told, coded_step, fast_step, told_step};
 
 /// Reads the next operator and takes its step, where it is one that compilers write less often. Where
 /// that isn't done the reader may stand further on.
@@ -175,6 +175,20 @@ impl<A: Allocator> OperatorValidator<A> {
         reader: &mut BinaryReader<'a>,
     ) -> Result<Told, NotTaken> {
         told_step(reader, &mut self.stacks, resources)
+    }
+
+    /// As [`OperatorValidator::told_op`], and answers the first byte of the operator.
+    ///
+    /// # Errors
+    ///
+    /// As [`OperatorValidator::frequent_op`].
+    #[inline(always)]
+    pub fn coded_op<'a, T: WasmModuleResources>(
+        &mut self,
+        resources: &T,
+        reader: &mut BinaryReader<'a>,
+    ) -> Result<u8, NotTaken> {
+        coded_step(reader, &mut self.stacks, resources)
     }
 
     /// As [`OperatorValidator::fast_op`] of those that [`OperatorValidator::told_op`] leaves.

@@ -80,6 +80,16 @@ impl<T: WasmModuleResources, A: Allocator> FuncValidator<T, A> {
         self.validator.told_op(&self.resources, reader)
     }
 
+    /// As [`FuncValidator::told_op`], and answers the first byte of the operator.
+    ///
+    /// # Errors
+    ///
+    /// As [`FuncValidator::frequent_op`].
+    #[inline(always)]
+    pub fn coded_op<'a>(&mut self, reader: &mut BinaryReader<'a>) -> Result<u8, NotTaken> {
+        self.validator.coded_op(&self.resources, reader)
+    }
+
     /// As [`FuncValidator::fast_op`] of those that [`FuncValidator::told_op`] leaves.
     ///
     /// # Errors

@@ -46,7 +46,7 @@ pub struct FuncToValidate<T> {
 
 /// The memory of a validator of bodies, to be handed on from one body to the next.
 #[derive(Drop)]
-pub struct FuncValidatorAllocations<A: Allocator = Global>(OperatorValidatorAllocations<A>);
+pub struct FuncValidatorAllocations<A: Allocator = Global>(pub OperatorValidatorAllocations<A>);
 
 /// The validation of one function body. Once any call but `try_op` was refused, it refuses all.
 pub struct FuncValidator<T, A: Allocator = Global> {
@@ -105,7 +105,7 @@ fn check_function_type<T: WasmModuleResources>(resources: &T, ty: u32) -> Result
 /// Refuses, at 0, a type's index that names no function type, and more than 50,000 parameters;
 /// answers want of memory.
 #[tactic(auto, using(crate::proofs::Functions::starts))]
-fn begin<A: Allocator, T: WasmModuleResources>(
+pub fn begin<A: Allocator, T: WasmModuleResources>(
     validator: &mut OperatorValidator<A>,
     resources: &T,
     ty: u32,

@@ -15,7 +15,10 @@ mod locals;
 mod next_operator;
 mod visitors;
 
-pub use func_validator::{FuncToValidate, FuncValidator, FuncValidatorAllocations, validate_body};
+pub use func_validator::{
+    FuncToValidate, FuncValidator, FuncValidatorAllocations, begin, validate_body,
+};
+pub use locals::read_declarations;
 pub use labels::block_arity;
 pub use laws::bodies_are_declarations_and_instructions;
 pub use next_operator::{read_operator, read_served};

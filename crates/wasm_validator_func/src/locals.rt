@@ -107,7 +107,7 @@ fn read_counted<'a, A: Allocator, T: WasmModuleResources>(
 /// Refused where the bytes begin with no list of declarations, and at a declaration that can't be
 /// made; and where memory is.
 #[tactic(auto, unfolding(crate::specs::Bodies::locals_from))]
-pub(crate) fn read_declarations<'a, A: Allocator, T: WasmModuleResources>(
+pub fn read_declarations<'a, A: Allocator, T: WasmModuleResources>(
     validator: &mut OperatorValidator<A>,
     resources: &T,
     reader: &mut BinaryReader<'a>,

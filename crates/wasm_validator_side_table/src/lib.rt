@@ -13,6 +13,7 @@ mod frequent;
 mod handlers;
 mod notes;
 mod others;
+mod plain;
 mod proto;
 mod quick;
 mod quick_body;
@@ -21,6 +22,7 @@ mod told;
 
 pub use body::validate_with_side_table;
 pub use error::SideTableError;
+pub use plain::validate_with_plain;
 pub use proto::validate_with_proto;
 pub use quick::QuickTable;
 pub use quick_body::validate_with_quick;

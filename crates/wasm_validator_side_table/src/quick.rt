@@ -2,31 +2,24 @@
 
 use std::alloc::{Allocator, Global};
 use wasm_spec_side_tables::{Entry, Place, narrow, narrow_offset};
-use wasm_typing_stacks::Stack;
 use wasm_validator_func::NotesLabels;
 
-/// Both places of a block.
-#[derive(Clone, Copy)]
-pub(crate) struct Pair {
-    pub(crate) label: Place,
-    pub(crate) other: Place,
-}
-
-/// A block that is open: the number of its places.
+/// A block that is open: the numbers of its places, which are one once it has turned.
 #[derive(Clone, Copy)]
 pub(crate) struct Open {
-    pub(crate) number: u32,
+    pub(crate) label: u32,
+    pub(crate) other: u32,
     pub(crate) is_loop: bool,
-    pub(crate) is_turned: bool,
 }
 
 /// A side table. Those entries and places that are in use are the first so many.
 pub struct QuickTable<A: Allocator = Global> {
     pub(crate) entries: Vec<Entry, A>,
     pub(crate) entry_count: usize,
-    pub(crate) pairs: Vec<Pair, A>,
-    pub(crate) pair_count: usize,
-    pub(crate) blocks: Stack<Open, A>,
+    pub(crate) places: Vec<Place, A>,
+    pub(crate) place_count: usize,
+    pub(crate) blocks: Vec<Open, A>,
+    pub(crate) block_count: usize,
     pub(crate) operands: u32,
     pub(crate) locals: u32,
     pub(crate) first: u32,
@@ -38,9 +31,10 @@ impl<A: Allocator> Drop for QuickTable<A> {
         let QuickTable {
             entries: _,
             entry_count: _,
-            pairs: _,
-            pair_count: _,
+            places: _,
+            place_count: _,
             blocks: _,
+            block_count: _,
             operands: _,
             locals: _,
             first: _,
@@ -55,9 +49,10 @@ impl<A: Allocator + Copy> QuickTable<A> {
         QuickTable {
             entries: Vec::new(alloc),
             entry_count: 0,
-            pairs: Vec::new(alloc),
-            pair_count: 0,
-            blocks: Stack::new(alloc),
+            places: Vec::new(alloc),
+            place_count: 0,
+            blocks: Vec::new(alloc),
+            block_count: 0,
             operands: 0,
             locals: 0,
             first: 0,
@@ -85,8 +80,8 @@ impl<A: Allocator> QuickTable<A> {
     /// Makes room for the table of another body.
     pub fn begin(&mut self) -> bool {
         self.entry_count = 0;
-        self.pair_count = 0;
-        self.blocks.truncate(0);
+        self.place_count = 0;
+        self.block_count = 0;
         self.operands = 0;
         self.locals = 0;
         self.first = 0;
@@ -120,11 +115,35 @@ impl<A: Allocator> QuickTable<A> {
 
     #[cold]
     #[inline(never)]
-    fn grow_pairs(&mut self, pair: Pair) -> bool {
-        self.pairs.truncate(self.pair_count);
-        match self.pairs.push(pair) {
+    fn grow_places(&mut self, place: Place) -> bool {
+        self.places.truncate(self.place_count);
+        if self.places.push(place).is_err() || self.places.push(place).is_err() {
+            return false;
+        }
+        self.place_count += 2;
+        true
+    }
+
+    /// Both places of a block.
+    #[inline(always)]
+    fn add_both(&mut self, place: Place) -> bool {
+        let count = self.place_count;
+        if count + 1 < self.places.len() {
+            self.places[count] = place;
+            self.places[count + 1] = place;
+            self.place_count = count + 2;
+            return true;
+        }
+        self.grow_places(place)
+    }
+
+    #[cold]
+    #[inline(never)]
+    fn grow_blocks(&mut self, block: Open) -> bool {
+        self.blocks.truncate(self.block_count);
+        match self.blocks.push(block) {
             Ok(()) => {
-                self.pair_count += 1;
+                self.block_count += 1;
                 true
             }
             Err(_) => false,
@@ -132,13 +151,13 @@ impl<A: Allocator> QuickTable<A> {
     }
 
     #[inline(always)]
-    fn add_pair(&mut self, pair: Pair) -> bool {
-        if self.pair_count < self.pairs.len() {
-            self.pairs[self.pair_count] = pair;
-            self.pair_count += 1;
+    fn add_block(&mut self, block: Open) -> bool {
+        if self.block_count < self.blocks.len() {
+            self.blocks[self.block_count] = block;
+            self.block_count += 1;
             return true;
         }
-        self.grow_pairs(pair)
+        self.grow_blocks(block)
     }
 
     /// The place behind an instruction.
@@ -154,28 +173,18 @@ impl<A: Allocator> QuickTable<A> {
         let Some(place) = self.place_behind(behind) else {
             return false;
         };
-        let Some(number) = narrow(self.pair_count) else {
-            return false;
-        };
-        if number >= 2_147_483_647 {
+        if self.place_count >= 4_294_967_294 {
             return false;
         }
-        let pair = Pair {
-            label: place,
-            other: place,
-        };
-        if !self.add_pair(pair) {
+        let label = self.place_count as u32;
+        if !self.add_both(place) {
             return false;
         }
-        let block = Open {
-            number,
+        self.add_block(Open {
+            label,
+            other: label + 1,
             is_loop,
-            is_turned: false,
-        };
-        match self.blocks.push(block) {
-            Ok(()) => true,
-            Err(_) => false,
-        }
+        })
     }
 
     /// A block opens behind this offset.
@@ -190,15 +199,12 @@ impl<A: Allocator> QuickTable<A> {
         let Some(at) = narrow_offset(at) else {
             return false;
         };
-        let Some(number) = narrow(self.pair_count) else {
-            return false;
-        };
-        if number >= 2_147_483_647 {
+        if self.place_count >= 4_294_967_294 {
             return false;
         }
         let entry = Entry {
             at,
-            target: number * 2 + 1,
+            target: self.place_count as u32 + 1,
             next: 0,
             kept,
             dropped: 0,
@@ -211,23 +217,21 @@ impl<A: Allocator> QuickTable<A> {
         let Some(place) = self.place_behind(behind) else {
             return false;
         };
-        let Some(block) = self.blocks.pop() else {
-            return false;
-        };
-        let number = block.number as usize;
-        if block.is_loop || number >= self.pair_count {
+        if self.block_count == 0 {
             return false;
         }
-        self.pairs[number].other = place;
-        let turned = Open {
-            number: block.number,
+        let block = self.blocks[self.block_count - 1];
+        let other = block.other as usize;
+        if block.is_loop || other >= self.place_count {
+            return false;
+        }
+        self.places[other] = place;
+        self.blocks[self.block_count - 1] = Open {
+            label: block.label,
+            other: block.label,
             is_loop: false,
-            is_turned: true,
         };
-        match self.blocks.push(turned) {
-            Ok(()) => true,
-            Err(_) => false,
-        }
+        true
     }
 
     /// A block closes behind this offset.
@@ -236,29 +240,26 @@ impl<A: Allocator> QuickTable<A> {
         let Some(place) = self.place_behind(behind) else {
             return false;
         };
-        let Some(block) = self.blocks.pop() else {
+        if self.block_count == 0 {
             return false;
-        };
+        }
+        let block = self.blocks[self.block_count - 1];
+        self.block_count -= 1;
         if block.is_loop {
             return true;
         }
-        let number = block.number as usize;
-        if number >= self.pair_count {
-            return false;
-        }
-        self.pairs[number].label = place;
-        if !block.is_turned {
-            self.pairs[number].other = place;
-        }
+        self.places[block.label as usize] = place;
+        self.places[block.other as usize] = place;
         true
     }
 
     /// An entry to a label.
     #[inline(always)]
     pub(crate) fn add_to(&mut self, at: u32, label: u32, kept: usize, dropped: usize) -> bool {
-        let Some(block) = self.blocks.get(label as usize) else {
+        if label as usize >= self.block_count {
             return false;
-        };
+        }
+        let number = self.blocks[self.block_count - 1 - label as usize].label;
         let Some(kept) = narrow(kept) else {
             return false;
         };
@@ -267,7 +268,7 @@ impl<A: Allocator> QuickTable<A> {
         };
         let entry = Entry {
             at,
-            target: block.number * 2,
+            target: number,
             next: 0,
             kept,
             dropped,
@@ -277,21 +278,12 @@ impl<A: Allocator> QuickTable<A> {
 
     /// Puts the places into the entries.
     pub(crate) fn finish(&mut self) -> bool {
-        if self.blocks.len() != 0 {
+        if self.block_count != 0 {
             return false;
         }
         let mut i = 0usize;
         'entries: while i < self.entry_count {
-            let target = self.entries[i].target;
-            let number = (target / 2) as usize;
-            if number >= self.pair_count {
-                return false;
-            }
-            let place = if target % 2 == 0 {
-                self.pairs[number].label
-            } else {
-                self.pairs[number].other
-            };
+            let place = self.places[self.entries[i].target as usize];
             self.entries[i].target = place.offset;
             self.entries[i].next = place.next;
             i += 1;
