@@ -1,15 +1,14 @@
 //! A table in places that are there already.
 
 use std::alloc::{Allocator, Global};
-use wasm_spec_side_tables::{Entry, Place, narrow, narrow_offset};
+use wasm_spec_side_tables::{Entry, Place};
 use wasm_validator_func::NotesLabels;
 
 /// A block that is open: the numbers of its places, which are one once it has turned.
 #[derive(Clone, Copy)]
 pub(crate) struct Open {
-    pub(crate) label: u32,
-    pub(crate) other: u32,
-    pub(crate) is_loop: bool,
+    pub(crate) first: u32,
+    pub(crate) second: u32,
 }
 
 /// A side table. Those entries and places that are in use are the first so many.
@@ -91,7 +90,14 @@ impl<A: Allocator> QuickTable<A> {
 
     #[cold]
     #[inline(never)]
-    fn grow(&mut self, entry: Entry) -> bool {
+    fn grow(&mut self, at: u32, target: u32, kept: u32, dropped: u32) -> bool {
+        let entry = Entry {
+            at,
+            target,
+            next: 0,
+            kept,
+            dropped,
+        };
         self.entries.truncate(self.entry_count);
         match self.entries.push(entry) {
             Ok(()) => {
@@ -104,13 +110,17 @@ impl<A: Allocator> QuickTable<A> {
 
     /// One entry more.
     #[inline(always)]
-    pub(crate) fn add(&mut self, entry: Entry) -> bool {
+    pub(crate) fn add(&mut self, at: u32, target: u32, kept: u32, dropped: u32) -> bool {
         if self.entry_count < self.entries.len() {
-            self.entries[self.entry_count] = entry;
-            self.entry_count += 1;
+            let count = self.entry_count;
+            self.entries[count].at = at;
+            self.entries[count].target = target;
+            self.entries[count].kept = kept;
+            self.entries[count].dropped = dropped;
+            self.entry_count = count + 1;
             return true;
         }
-        self.grow(entry)
+        self.grow(at, target, kept, dropped)
     }
 
     #[cold]
@@ -139,7 +149,8 @@ impl<A: Allocator> QuickTable<A> {
 
     #[cold]
     #[inline(never)]
-    fn grow_blocks(&mut self, block: Open) -> bool {
+    fn grow_blocks(&mut self, first: u32, second: u32) -> bool {
+        let block = Open { first, second };
         self.blocks.truncate(self.block_count);
         match self.blocks.push(block) {
             Ok(()) => {
@@ -151,21 +162,26 @@ impl<A: Allocator> QuickTable<A> {
     }
 
     #[inline(always)]
-    fn add_block(&mut self, block: Open) -> bool {
+    fn add_block(&mut self, first: u32, second: u32) -> bool {
         if self.block_count < self.blocks.len() {
-            self.blocks[self.block_count] = block;
+            self.blocks[self.block_count].first = first;
+            self.blocks[self.block_count].second = second;
             self.block_count += 1;
             return true;
         }
-        self.grow_blocks(block)
+        self.grow_blocks(first, second)
     }
 
     /// The place behind an instruction.
     #[inline(always)]
     fn place_behind(&self, behind: u64) -> Option<Place> {
-        let offset = narrow_offset(behind)?;
-        let next = narrow(self.entry_count)?;
-        Some(Place { offset, next })
+        if behind >= 4_294_967_296 || self.entry_count >= 4_294_967_296 {
+            return None;
+        }
+        Some(Place {
+            offset: behind as u32,
+            next: self.entry_count as u32,
+        })
     }
 
     #[inline(always)]
@@ -180,11 +196,9 @@ impl<A: Allocator> QuickTable<A> {
         if !self.add_both(place) {
             return false;
         }
-        self.add_block(Open {
-            label,
-            other: label + 1,
-            is_loop,
-        })
+        // A loop's end fills the place that none of its branches has.
+        let first = if is_loop { label + 1 } else { label };
+        self.add_block(first, label + 1)
     }
 
     /// A block opens behind this offset.
@@ -196,20 +210,14 @@ impl<A: Allocator> QuickTable<A> {
     /// An `if` at this offset opens behind another.
     #[inline(never)]
     pub(crate) fn put_then(&mut self, at: u64, behind: u64, kept: u32) -> bool {
-        let Some(at) = narrow_offset(at) else {
+        if at >= 4_294_967_296 {
             return false;
-        };
+        }
+        let at = at as u32;
         if self.place_count >= 4_294_967_294 {
             return false;
         }
-        let entry = Entry {
-            at,
-            target: self.place_count as u32 + 1,
-            next: 0,
-            kept,
-            dropped: 0,
-        };
-        self.add(entry) && self.open_at(false, behind)
+        self.add(at, self.place_count as u32 + 1, kept, 0) && self.open_at(false, behind)
     }
 
     /// A block turns to its `else` behind this offset.
@@ -221,16 +229,12 @@ impl<A: Allocator> QuickTable<A> {
             return false;
         }
         let block = self.blocks[self.block_count - 1];
-        let other = block.other as usize;
-        if block.is_loop || other >= self.place_count {
+        let other = block.second as usize;
+        if other >= self.place_count {
             return false;
         }
         self.places[other] = place;
-        self.blocks[self.block_count - 1] = Open {
-            label: block.label,
-            other: block.label,
-            is_loop: false,
-        };
+        self.blocks[self.block_count - 1].second = block.first;
         true
     }
 
@@ -245,11 +249,8 @@ impl<A: Allocator> QuickTable<A> {
         }
         let block = self.blocks[self.block_count - 1];
         self.block_count -= 1;
-        if block.is_loop {
-            return true;
-        }
-        self.places[block.label as usize] = place;
-        self.places[block.other as usize] = place;
+        self.places[block.first as usize] = place;
+        self.places[block.second as usize] = place;
         true
     }
 
@@ -259,21 +260,12 @@ impl<A: Allocator> QuickTable<A> {
         if label as usize >= self.block_count {
             return false;
         }
-        let number = self.blocks[self.block_count - 1 - label as usize].label;
-        let Some(kept) = narrow(kept) else {
+        let first = self.blocks[self.block_count - 1 - label as usize].first;
+        let number = first - first % 2;
+        if kept >= 4_294_967_296 || dropped >= 4_294_967_296 {
             return false;
-        };
-        let Some(dropped) = narrow(dropped) else {
-            return false;
-        };
-        let entry = Entry {
-            at,
-            target: number,
-            next: 0,
-            kept,
-            dropped,
-        };
-        self.add(entry)
+        }
+        self.add(at, number, kept as u32, dropped as u32)
     }
 
     /// Puts the places into the entries.

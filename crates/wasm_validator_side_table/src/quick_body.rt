@@ -46,9 +46,10 @@ impl<A: Allocator> QuickTable<A> {
         label: u32,
         operands: usize,
     ) -> bool {
-        let Some(at) = narrow_offset(at) else {
+        if at >= 4_294_967_296 {
             return false;
-        };
+        }
+        let at = at as u32;
         match validator.plain_label(label) {
             Some((kept, height)) => {
                 let dropped = operands.saturating_sub(kept).saturating_sub(height);
