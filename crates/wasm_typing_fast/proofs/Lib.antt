@@ -1,7 +1,6 @@
 pub mod FastActions
 pub mod LocalOperators
 pub mod FrameEnds
-pub mod FusedInstructions
 pub mod BranchOperands
 mod FrameEntries
 mod BlockTypes

@@ -92,7 +92,7 @@ fn store<A: Allocator, T: WasmModuleResources>(
 
 /// A load or a store.
 #[inline(always)]
-pub(crate) fn access<A: Allocator, T: WasmModuleResources>(
+pub fn access<A: Allocator, T: WasmModuleResources>(
     stacks: &mut Stacks<A>,
     resources: &T,
     op: MemoryOperator,

@@ -66,7 +66,7 @@ fn open_plain<A: Allocator, T: WasmModuleResources>(
 
 /// `block`.
 #[inline(always)]
-pub(crate) fn open_block<A: Allocator, T: WasmModuleResources>(
+pub fn open_block<A: Allocator, T: WasmModuleResources>(
     stacks: &mut Stacks<A>,
     resources: &T,
     gives: Option<NumberType>,
@@ -80,7 +80,7 @@ pub(crate) fn open_block<A: Allocator, T: WasmModuleResources>(
 
 /// `loop`.
 #[inline(always)]
-pub(crate) fn open_loop<A: Allocator, T: WasmModuleResources>(
+pub fn open_loop<A: Allocator, T: WasmModuleResources>(
     stacks: &mut Stacks<A>,
     resources: &T,
     gives: Option<NumberType>,
@@ -113,7 +113,7 @@ fn conditioned_word<A: Allocator, T: WasmModuleResources>(
 /// `if`, which takes its condition.
 #[inline(always)]
 #[tactic(auto, using(crate::proofs::FastActions::acts, crate::proofs::FrameEntries::enters))]
-pub(crate) fn open_if<A: Allocator, T: WasmModuleResources>(
+pub fn open_if<A: Allocator, T: WasmModuleResources>(
     stacks: &mut Stacks<A>,
     resources: &T,
     gives: Option<NumberType>,

@@ -15,7 +15,7 @@ use wasm_typing_control::{NotTaken, label_types, peek, peek_types, returned_type
 /// `nop`.
 #[inline(always)]
 #[tactic(auto, using(crate::proofs::FastActions::acts, crate::proofs::BranchOperands::branches))]
-pub(crate) fn do_nothing<A: Allocator, T: WasmModuleResources>(
+pub fn do_nothing<A: Allocator, T: WasmModuleResources>(
     _stacks: &mut Stacks<A>,
     _resources: &T,
 ) -> Result<(), NotTaken>
@@ -29,7 +29,7 @@ pub(crate) fn do_nothing<A: Allocator, T: WasmModuleResources>(
 /// `unreachable`.
 #[inline(always)]
 #[tactic(auto, using(crate::proofs::FastActions::acts, crate::proofs::BranchOperands::branches))]
-pub(crate) fn trap<A: Allocator, T: WasmModuleResources>(
+pub fn trap<A: Allocator, T: WasmModuleResources>(
     stacks: &mut Stacks<A>,
     _resources: &T,
 ) -> Result<(), NotTaken>
@@ -47,7 +47,7 @@ pub(crate) fn trap<A: Allocator, T: WasmModuleResources>(
 /// `br`. Where operands aren't seen at once to be of the label's types, the general way decides.
 #[inline(always)]
 #[tactic(auto, using(crate::proofs::FastActions::acts, crate::proofs::BranchOperands::branches))]
-pub(crate) fn branch_away<A: Allocator, T: WasmModuleResources>(
+pub fn branch_away<A: Allocator, T: WasmModuleResources>(
     stacks: &mut Stacks<A>,
     resources: &T,
     depth: u32,
@@ -77,7 +77,7 @@ pub(crate) fn branch_away<A: Allocator, T: WasmModuleResources>(
 /// decides.
 #[inline(always)]
 #[tactic(auto, using(crate::proofs::FastActions::acts, crate::proofs::BranchOperands::branches))]
-pub(crate) fn branch_perhaps<A: Allocator, T: WasmModuleResources>(
+pub fn branch_perhaps<A: Allocator, T: WasmModuleResources>(
     stacks: &mut Stacks<A>,
     resources: &T,
     depth: u32,
@@ -104,7 +104,7 @@ pub(crate) fn branch_perhaps<A: Allocator, T: WasmModuleResources>(
 /// decides.
 #[inline(always)]
 #[tactic(auto, using(crate::proofs::FastActions::acts, crate::proofs::BranchOperands::branches))]
-pub(crate) fn return_all<A: Allocator, T: WasmModuleResources>(
+pub fn return_all<A: Allocator, T: WasmModuleResources>(
     stacks: &mut Stacks<A>,
     resources: &T,
 ) -> Result<(), NotTaken>

@@ -20,7 +20,7 @@ use wasm_typing_control::{
 /// way decides.
 #[inline(always)]
 #[tactic(auto, using(crate::proofs::FastActions::acts))]
-pub(crate) fn call_function<A: Allocator, T: WasmModuleResources>(
+pub fn call_function<A: Allocator, T: WasmModuleResources>(
     stacks: &mut Stacks<A>,
     resources: &T,
     index: u32,
@@ -46,7 +46,7 @@ pub(crate) fn call_function<A: Allocator, T: WasmModuleResources>(
 #[cold]
 #[inline(never)]
 #[tactic(auto, using(crate::proofs::FastActions::acts))]
-pub(crate) fn call_in_table<A: Allocator, T: WasmModuleResources>(
+pub fn call_in_table<A: Allocator, T: WasmModuleResources>(
     stacks: &mut Stacks<A>,
     resources: &T,
     type_index: u32,

@@ -47,7 +47,7 @@ fn select_float<A: Allocator, T: WasmModuleResources>(
 
 /// `select` between two numbers of one type.
 #[inline(always)]
-pub(crate) fn select_of_two<A: Allocator, T: WasmModuleResources>(
+pub fn select_of_two<A: Allocator, T: WasmModuleResources>(
     stacks: &mut Stacks<A>,
     resources: &T,
 ) -> Result<(), NotTaken>
@@ -66,7 +66,7 @@ pub(crate) fn select_of_two<A: Allocator, T: WasmModuleResources>(
 /// `drop`.
 #[inline(always)]
 #[tactic(auto, using(crate::proofs::FastActions::acts, crate::proofs::LocalOperators::drops))]
-pub(crate) fn drop_one<A: Allocator, T: WasmModuleResources>(
+pub fn drop_one<A: Allocator, T: WasmModuleResources>(
     stacks: &mut Stacks<A>,
     _resources: &T,
 ) -> Result<(), NotTaken>

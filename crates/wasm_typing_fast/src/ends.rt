@@ -101,7 +101,7 @@ fn end_typed<A: Allocator, T: WasmModuleResources>(
 /// `end`.
 #[inline(always)]
 #[tactic(auto, using(crate::proofs::FastActions::acts, crate::proofs::FrameEnds::ends))]
-pub(crate) fn end<A: Allocator, T: WasmModuleResources>(
+pub fn end<A: Allocator, T: WasmModuleResources>(
     stacks: &mut Stacks<A>,
     resources: &T,
 ) -> Result<(), NotTaken>

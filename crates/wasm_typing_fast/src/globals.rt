@@ -14,7 +14,7 @@ use wasm_typing_control::{NotTaken, give_known, take_known};
 /// `global.get`.
 #[inline(always)]
 #[tactic(auto, using(crate::proofs::FastActions::acts, crate::proofs::Cited::globals))]
-pub(crate) fn get_global<A: Allocator, T: WasmModuleResources>(
+pub fn get_global<A: Allocator, T: WasmModuleResources>(
     stacks: &mut Stacks<A>,
     resources: &T,
     index: u32,
@@ -37,7 +37,7 @@ pub(crate) fn get_global<A: Allocator, T: WasmModuleResources>(
 /// `global.set`.
 #[inline(always)]
 #[tactic(auto, using(crate::proofs::FastActions::acts, crate::proofs::Cited::globals))]
-pub(crate) fn set_global<A: Allocator, T: WasmModuleResources>(
+pub fn set_global<A: Allocator, T: WasmModuleResources>(
     stacks: &mut Stacks<A>,
     resources: &T,
     index: u32,

@@ -15,7 +15,7 @@ use wasm_typing_control::NotTaken;
 
 /// The next byte.
 #[inline(always)]
-pub(crate) fn next_byte(reader: &mut BinaryReader) -> Result<u8, NotTaken>
+pub fn next_byte(reader: &mut BinaryReader) -> Result<u8, NotTaken>
     ensures same { SameInput reader.old reader.new }
     ensures onward { position_in reader.old ≤ position_in reader.new }
     ensures ok { IfOk result (λ byte. rest reader.old ≡ byte ∷ rest reader.new) }
@@ -48,7 +48,7 @@ fn next_short(reader: &mut BinaryReader) -> Result<u32, NotTaken>
 
 /// The next index.
 #[inline(always)]
-pub(crate) fn next_index(reader: &mut BinaryReader) -> Result<u32, NotTaken>
+pub fn next_index(reader: &mut BinaryReader) -> Result<u32, NotTaken>
     ensures same { SameInput reader.old reader.new }
     ensures onward { position_in reader.old ≤ position_in reader.new }
     ensures ok { IfOk result (λ n. u32_at (rest reader.old) ≡ Some (n, rest reader.new)) }
@@ -191,7 +191,7 @@ pub fn pass_i64(reader: &mut BinaryReader) -> Result<(), NotTaken>
 /// The next memory argument, where it is of the first memory.
 #[inline(always)]
 #[tactic(auto, unfolding(wasm_operators_plain::specs::Memories::memarg_at))]
-pub(crate) fn next_memarg(reader: &mut BinaryReader) -> Result<MemArg, NotTaken>
+pub fn next_memarg(reader: &mut BinaryReader) -> Result<MemArg, NotTaken>
     ensures same { SameInput reader.old reader.new }
     ensures onward { position_in reader.old ≤ position_in reader.new }
     ensures ok { IfOk result (λ arg. memarg_at (rest reader.old) ≡ Some (arg, rest reader.new)) }
@@ -211,7 +211,7 @@ pub(crate) fn next_memarg(reader: &mut BinaryReader) -> Result<MemArg, NotTaken>
 /// What the next block type gives, where it takes nothing and gives nothing or a number.
 #[inline(always)]
 #[tactic(auto, using(crate::proofs::BlockTypes::blocks))]
-pub(crate) fn next_block(reader: &mut BinaryReader) -> Result<Option<NumberType>, NotTaken>
+pub fn next_block(reader: &mut BinaryReader) -> Result<Option<NumberType>, NotTaken>
     ensures same { SameInput reader.old reader.new }
     ensures onward { position_in reader.old ≤ position_in reader.new }
     ensures ok { IfOk result (λ gives. block_at written (rest reader.old)

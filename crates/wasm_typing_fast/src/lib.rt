@@ -1,4 +1,4 @@
-//! Frequent operators, read and typed at once.
+//! Frequent operators, and the reading of what follows their first bytes.
 #![tactic(auto)]
 
 mod accesses;
@@ -12,10 +12,17 @@ mod globals;
 mod immediates;
 mod locals;
 mod numbers;
-mod steps;
 
-pub use immediates::{pass_i32, pass_i64};
-pub use steps::fast_step;
+pub use accesses::access;
+pub use blocks::{open_block, open_if, open_loop};
+pub use branches::{branch_away, branch_perhaps, do_nothing, return_all, trap};
+pub use calls::{call_function, call_in_table};
+pub use choices::{drop_one, select_of_two};
+pub use ends::end;
+pub use globals::{get_global, set_global};
+pub use immediates::{next_block, next_byte, next_index, next_memarg, pass_i32, pass_i64};
+pub use locals::{local_get, local_set, local_tee};
+pub use numbers::{compute, constant};
 pub use wasm_typing_control::NotTaken;
 
 /// Passed on from `wasm_typing_numbers`.
@@ -28,6 +35,28 @@ pub mod typing_numbers {
 
 /// Passed on from `wasm_typing_control`.
 pub mod typing_control {
-    pub use wasm_typing_control::typing_stacks::Block;
+    pub use wasm_typing_control::typing_stacks::{Block, Stacks};
+    pub use wasm_typing_control::validator_resources::WasmModuleResources;
     pub use wasm_typing_control::{frame_at, peek};
+}
+
+/// Passed on from `wasm_operators_plain`.
+pub mod operators_plain {
+    pub use wasm_operators_plain::readers::BinaryReader;
+    pub use wasm_operators_plain::{
+        NumberType, access_from_opcode, numeric_from_opcode, signature_in_place,
+    };
+}
+
+/// Passed on from `wasm_operators`.
+pub mod operators {
+    pub use wasm_operators::{
+        BulkMemoryOperator, ConstantOperator, ControlOperator, Ieee32, Ieee64, Operator,
+        ParametricOperator, ReferenceOperator, SaturatingOperator, TableOperator,
+    };
+}
+
+/// Passed on from `wasm_readers_types`.
+pub mod readers_types {
+    pub use wasm_readers_types::{AbstractHeapType, HeapType};
 }

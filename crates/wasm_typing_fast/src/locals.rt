@@ -35,7 +35,7 @@ fn set_local<A: Allocator>(stacks: &Stacks<A>, index: u32) -> Result<LocalWord, 
 /// `local.get`.
 #[inline(always)]
 #[tactic(auto, using(crate::proofs::FastActions::acts, crate::proofs::LocalOperators::gets))]
-pub(crate) fn local_get<A: Allocator, T: WasmModuleResources>(
+pub fn local_get<A: Allocator, T: WasmModuleResources>(
     stacks: &mut Stacks<A>,
     resources: &T,
     index: u32,
@@ -51,7 +51,7 @@ pub(crate) fn local_get<A: Allocator, T: WasmModuleResources>(
 /// `local.set`.
 #[inline(always)]
 #[tactic(auto, using(crate::proofs::FastActions::acts, crate::proofs::LocalOperators::puts))]
-pub(crate) fn local_set<A: Allocator, T: WasmModuleResources>(
+pub fn local_set<A: Allocator, T: WasmModuleResources>(
     stacks: &mut Stacks<A>,
     resources: &T,
     index: u32,
@@ -69,7 +69,7 @@ pub(crate) fn local_set<A: Allocator, T: WasmModuleResources>(
 /// `local.tee`, which leaves the operand where it is.
 #[inline(always)]
 #[tactic(auto, using(crate::proofs::FastActions::acts, crate::proofs::LocalOperators::puts))]
-pub(crate) fn local_tee<A: Allocator, T: WasmModuleResources>(
+pub fn local_tee<A: Allocator, T: WasmModuleResources>(
     stacks: &mut Stacks<A>,
     resources: &T,
     index: u32,

@@ -71,7 +71,7 @@ fn binary<A: Allocator, T: WasmModuleResources>(
 
 /// An operator that takes and gives numbers.
 #[inline(always)]
-pub(crate) fn compute<A: Allocator, T: WasmModuleResources>(
+pub fn compute<A: Allocator, T: WasmModuleResources>(
     stacks: &mut Stacks<A>,
     resources: &T,
     signature: Signature,
@@ -89,7 +89,7 @@ pub(crate) fn compute<A: Allocator, T: WasmModuleResources>(
 /// A constant of a number type.
 #[inline(always)]
 #[tactic(auto, using(crate::proofs::FastActions::acts, crate::proofs::Cited::types))]
-pub(crate) fn constant<A: Allocator, T: WasmModuleResources>(
+pub fn constant<A: Allocator, T: WasmModuleResources>(
     stacks: &mut Stacks<A>,
     resources: &T,
     ty: NumberType,

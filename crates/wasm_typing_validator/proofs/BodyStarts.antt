@@ -16,7 +16,7 @@ use Rattle.wasm_typing_blocks.specs.WasmTypingChecks.WasmSpecRules.Signatures.{S
 use Rattle.wasm_typing_blocks.specs.WasmTypingChecks.WasmSpecRules.Limits.{most_locals}
 use Rattle.wasm_typing_blocks.specs.WasmTypingChecks.WasmSpecSteps.Steps.{start}
 use Rattle.wasm_typing_blocks.specs.WasmTypingChecks.WasmValidatorResources.Answers.{sub_in}
-use Rattle.wasm_typing_fast.specs.WasmTypingControl.Blocks.{function_in}
+use Rattle.wasm_typing_steps.specs.WasmTypingControl.Blocks.{function_in}
 use Rattle.wasm_typing_blocks.specs.WasmTypingChecks.declared.faults.OperatorError.{OperatorError}
 use Rattle.wasm_typing_blocks.specs.WasmTypingChecks.declared.faults.OperatorError.TheVariants.{Refused, OutOfMemory}
 use Rattle.wasm_typing_validator.specs.BodyTyping.{parameter, HasMany, IsRefused}

@@ -19,7 +19,7 @@ use Rattle.wasm_typing_blocks.specs.WasmTypingChecks.WasmTypingStacks.declared.s
 use Rattle.wasm_typing_blocks.specs.WasmTypingChecks.Steps.{acted, typed}
 use Rattle.wasm_typing_blocks.specs.BranchTargets.{fits, all_fit}
 use Rattle.wasm_typing_blocks.proofs.TableBranches.{fits_there, table_is}
-use Rattle.wasm_typing_fast.specs.InstructionSteps.{step_at}
+use Rattle.wasm_typing_steps.specs.InstructionSteps.{step_at}
 use Rattle.wasm_typing_validator.specs.Labels.{Lists}
 
 module _ {A : Type 0} (v : Stacks A) (C : Context UnpackedIndex) where

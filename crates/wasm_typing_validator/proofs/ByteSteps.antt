@@ -22,7 +22,7 @@ use Rattle.wasm_typing_blocks.specs.WasmTypingChecks.OperatorRefusals.{TellsErro
 use Rattle.wasm_typing_blocks.specs.WasmTypingChecks.declared.faults.OperatorError.{OperatorError}
 use Rattle.wasm_typing_blocks.specs.WasmTypingChecks.declared.faults.OperatorError.TheVariants as operator
 use Rattle.wasm_typing_blocks.specs.WasmTypingChecks.WasmSpecRules.FeatureFlags.{features_of}
-use Rattle.wasm_typing_fast.specs.InstructionSteps.{step_read, step_at}
+use Rattle.wasm_typing_steps.specs.InstructionSteps.{step_read, step_at}
 use Rattle.wasm_typing_arity.proofs.UnservedOperators.{takes_none}
 use Rattle.wasm_typing_validator.specs.StackSteps.{Steps}
 use Rattle.wasm_typing_validator.specs.StepsFromBytes.{ReadsStep, stepped}

@@ -12,7 +12,7 @@ use Rattle.wasm_typing_blocks.specs.WasmTypingChecks.WasmTypingStacks.declared.s
 use Rattle.wasm_typing_blocks.specs.WasmTypingChecks.Steps.{Took}
 use Rattle.wasm_typing_blocks.specs.WasmTypingChecks.declared.faults.OperatorError.{OperatorError}
 use Rattle.wasm_typing_blocks.specs.WasmTypingChecks.declared.faults.OperatorError.TheVariants.{Refused, OutOfMemory}
-use Rattle.wasm_typing_fast.specs.InstructionSteps.{step_at}
+use Rattle.wasm_typing_steps.specs.InstructionSteps.{step_at}
 use Rattle.wasm_typing_validator.specs.StackSteps.{Steps}
 use Rattle.wasm_typing_validator.specs.StepsFromBytes.{stepped}
 use Rattle.wasm_typing_validator.proofs.CodeSurroundings.{kept_around, kept_on}

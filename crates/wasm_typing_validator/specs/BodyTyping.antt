@@ -14,7 +14,7 @@ use Rattle.wasm_typing_blocks.specs.WasmTypingChecks.WasmSpecSteps.Meanings.{has
 use Rattle.wasm_typing_blocks.specs.WasmTypingChecks.WasmSpecSteps.Steps.{start}
 use Rattle.wasm_typing_blocks.specs.WasmTypingChecks.WasmValidatorResources.Answers.{sub_in}
 use Rattle.wasm_typing_blocks.specs.WasmTypingChecks.WasmTypingStacks.BodyStacks.{state_of}
-use Rattle.wasm_typing_fast.specs.WasmTypingControl.Blocks.{function_in}
+use Rattle.wasm_typing_steps.specs.WasmTypingControl.Blocks.{function_in}
 use Rattle.wasm_typing_blocks.specs.WasmTypingChecks.declared.faults.OperatorError.{OperatorError}
 use Rattle.wasm_typing_blocks.specs.WasmTypingChecks.declared.faults.OperatorError.TheVariants.{Refused, OutOfMemory}
 use Rattle.wasm_typing_validator.specs.declared.validator.OperatorValidator.{OperatorValidator}

@@ -11,7 +11,7 @@ use Rattle.wasm_typing_blocks.specs.WasmTypingChecks.WasmSpecSteps.Machine.{Stat
 use Rattle.wasm_typing_blocks.specs.WasmTypingChecks.WasmValidatorResources.Answers.{world}
 use Rattle.wasm_typing_blocks.specs.WasmTypingChecks.WasmTypingStacks.BodyStacks.{state_of, around}
 use Rattle.wasm_typing_blocks.specs.WasmTypingChecks.WasmTypingStacks.declared.stacks.Stacks.{Stacks}
-use Rattle.wasm_typing_fast.specs.InstructionSteps.{step_at}
+use Rattle.wasm_typing_steps.specs.InstructionSteps.{step_at}
 
 -- the step of an instruction that was read: the state and the bytes behind it, or none where it is refused
 abbrev pub ReadsStep : Result (Unit {0}) Error → Option (State UnpackedIndex × List ℕ) → State UnpackedIndex → List ℕ → Type 0

@@ -13,7 +13,6 @@ ghost use Rattle.wasm_typing_validator.specs.StepsFromBytes.{ReadsStep, stepped}
 ghost use Rattle.wasm_typing_validator.specs.ValidatorFailures.{EndsReading};
 
 use crate::labels::table_step;
-use crate::seldom::{is_seldom, next_float, next_seldom};
 use crate::steps::step;
 use crate::validator::OperatorValidator;
 use std::alloc::Allocator;
@@ -23,8 +22,8 @@ use wasm_typing_arity::read_served;
 use wasm_typing_blocks::typing_checks::OperatorError;
 use wasm_typing_blocks::typing_stacks::Stacks;
 use wasm_typing_blocks::validator_resources::WasmModuleResources;
-use wasm_typing_fast::typing_numbers::constant;
-use wasm_typing_fast::{NotTaken, fast_step};
+use wasm_typing_steps::typing_numbers::constant;
+use wasm_typing_steps::{NotTaken, fast_step, is_seldom, next_float, next_seldom};
 
 /// Reads the next operator and takes its step, where it is one that compilers write less often. Where
 /// that isn't done the reader may stand further on.

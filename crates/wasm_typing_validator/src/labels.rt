@@ -14,8 +14,8 @@ use wasm_operators::operators_plain::NumberType;
 use wasm_readers::BinaryReader;
 use wasm_typing_blocks::typing_stacks::{Stacks, TypeWord};
 use wasm_typing_blocks::validator_resources::WasmModuleResources;
-use wasm_typing_fast::NotTaken;
-use wasm_typing_fast::typing_control::{Block, frame_at, peek};
+use wasm_typing_steps::NotTaken;
+use wasm_typing_steps::typing_control::{Block, frame_at, peek};
 
 /// Whether a label is that of a block without types, to which a branch takes nothing.
 #[inline(always)]

@@ -12,7 +12,7 @@ use wasm_operators::{BlockType, FrameKind};
 use wasm_readers::readers_errors::WasmFeatures;
 use wasm_readers_types::ValType;
 use wasm_typing_blocks::typing_stacks::Operand;
-use wasm_typing_fast::typing_control::frame_at;
+use wasm_typing_steps::typing_control::frame_at;
 
 /// A control frame (Core Specification 3.0, Appendix, Validation Algorithm): what opened it, its
 /// block type, how many operands stood below and how many locals had been set before it, and

@@ -13,7 +13,7 @@ use wasm_typing_blocks::typing_stacks::Stacks;
 use wasm_typing_blocks::validator_resources::WasmModuleResources;
 use wasm_typing_blocks::{step_call, step_control, step_legacy, step_parametric, step_variable};
 use wasm_typing_casts::{step_cast, step_continuation, step_conversion, step_reference};
-use wasm_typing_fast::typing_numbers::{
+use wasm_typing_steps::typing_numbers::{
     access_memory, bulk_memory, compute, constant, step_atomic, step_table, step_vector, step_wide,
 };
 use wasm_typing_structs::{step_shared, step_struct};

@@ -9,7 +9,7 @@ ghost use Rattle.wasm_typing_blocks.specs.WasmTypingChecks.WasmSpecSteps.Meaning
 ghost use Rattle.wasm_typing_blocks.specs.WasmTypingChecks.WasmSpecSteps.Steps.{is_finished};
 ghost use Rattle.wasm_typing_blocks.specs.WasmTypingChecks.WasmValidatorResources.Answers.{val_in, IsWrittenVal};
 ghost use Rattle.wasm_typing_blocks.specs.WasmTypingChecks.WasmTypingStacks.BodyStacks.{Kept};
-ghost use Rattle.wasm_typing_fast.specs.WasmTypingControl.Blocks.{function_in};
+ghost use Rattle.wasm_typing_steps.specs.WasmTypingControl.Blocks.{function_in};
 ghost use Rattle.wasm_typing_validator.specs.StackSteps.{Steps, IsWrittenInstruction};
 ghost use Rattle.wasm_typing_validator.specs.OperatorVisits.{IsToldAt, StepsAt};
 ghost use Rattle.wasm_typing_validator.specs.ValidatorFailures.{IsFailure, failure_at};

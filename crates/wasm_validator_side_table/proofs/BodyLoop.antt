@@ -12,7 +12,7 @@ use Rattle.wasm_spec_steps.specs.Machine.{State}
 use Rattle.wasm_spec_steps.specs.Steps.{is_finished}
 use Rattle.wasm_validator_resources.specs.Answers.{world}
 use Rattle.wasm_typing_stacks.specs.BodyStacks.{Kept}
-use Rattle.wasm_typing_validator.specs.WasmTypingFast.InstructionSteps.{step_at}
+use Rattle.wasm_typing_validator.specs.WasmTypingSteps.InstructionSteps.{step_at}
 use Rattle.wasm_typing_validator.specs.BodyTyping.{typed_state}
 use Rattle.wasm_typing_validator.specs.TypedInstructions.{within, ReadsTo}
 use Rattle.wasm_typing_validator.specs.StepsFromBytes.{ReadsStep, stepped}

@@ -15,7 +15,7 @@ use Rattle.wasm_operators.specs.Maps.{map_instruction}
 use Rattle.wasm_spec_steps.specs.Machine.{State}
 use Rattle.wasm_validator_resources.specs.Answers.{world, written_index}
 use Rattle.wasm_typing_stacks.specs.BodyStacks.{Kept}
-use Rattle.wasm_typing_validator.specs.WasmTypingFast.InstructionSteps.{step_read, step_at}
+use Rattle.wasm_typing_validator.specs.WasmTypingSteps.InstructionSteps.{step_read, step_at}
 use Rattle.wasm_typing_validator.specs.BodyTyping.{typed_state, locals_in}
 use Rattle.wasm_typing_validator.specs.TypedInstructions.{within, TookAt, StandsIn}
 use Rattle.wasm_typing_validator.specs.StepsFromBytes.{ReadsStep, stepped}

@@ -11,7 +11,7 @@ use Rattle.wasm_operators.proofs.Renamings.{instruction-renames}
 use Rattle.wasm_spec_steps.specs.Machine.{State}
 use Rattle.wasm_validator_resources.specs.Answers.{world, written_index}
 use Rattle.wasm_typing_stacks.specs.BodyStacks.{Kept}
-use Rattle.wasm_typing_validator.specs.WasmTypingFast.InstructionSteps.{step_read, step_at}
+use Rattle.wasm_typing_validator.specs.WasmTypingSteps.InstructionSteps.{step_read, step_at}
 use Rattle.wasm_typing_validator.specs.BodyTyping.{typed_state}
 use Rattle.wasm_typing_validator.specs.TypedInstructions.{within}
 use Rattle.wasm_typing_validator.specs.StepsFromBytes.{stepped}

@@ -2,7 +2,7 @@ use Rattle.std.proofs.Common.{◌≡◌, ◌<◌, ◌∙◌, ◌||◌, ap, subst
 use Rattle.wasm_readers_bytes.specs.Reader.{position_in, rest}
 use Rattle.wasm_operators.proofs.ExpressionEnds.{shorter}
 use Rattle.wasm_spec_steps.specs.Steps.{is_finished}
-use Rattle.wasm_typing_validator.specs.WasmTypingFast.InstructionSteps.{step_at}
+use Rattle.wasm_typing_validator.specs.WasmTypingSteps.InstructionSteps.{step_at}
 use Rattle.wasm_validator_resources.specs.Answers.{world}
 use Rattle.wasm_typing_validator.specs.BodyTyping.{typed_state}
 use Rattle.wasm_typing_validator.specs.TypedInstructions.{within}

@@ -1,29 +1,24 @@
 //! Reading and typing at once.
 
-ghost use Rattle.std.specs.Prelude.{◌≡◌, ◌≤◌, ◌<◌, Some, OnOk, OnErr};
-ghost use Rattle.wasm_readers_bytes.specs.Reader.{SameInput, position_in, rest};
-ghost use Rattle.wasm_typing_control.specs.WasmTypingChecks.WasmValidatorResources.Answers.{world};
-ghost use Rattle.wasm_typing_control.specs.WasmTypingChecks.WasmTypingStacks.BodyStacks.{state_of, around, Kept};
-ghost use Rattle.wasm_typing_fast.specs.InstructionSteps.{Fuses, step_at};
+ghost use Rattle.std.specs.Prelude.{◌≡◌, ◌≤◌, ◌<◌, Some, IfOk, OnOk, OnErr};
+ghost use Rattle.wasm_typing_fast.specs.WasmReadersBytes.Reader.{SameInput, position_in, rest};
+ghost use Rattle.wasm_typing_fast.specs.WasmTypingControl.WasmTypingChecks.WasmValidatorResources.Answers.{world};
+ghost use Rattle.wasm_typing_fast.specs.WasmTypingControl.WasmTypingChecks.WasmTypingStacks.BodyStacks.{state_of, around, Kept};
+ghost use Rattle.wasm_typing_steps.specs.InstructionSteps.{Fuses, step_at};
+ghost use Rattle.wasm_typing_steps.specs.ToldSteps.{IsPlain, Tells, told_at};
 
-use crate::accesses::access;
-use crate::blocks::{open_block, open_if, open_loop};
-use crate::branches::{branch_away, branch_perhaps, do_nothing, return_all, trap};
-use crate::calls::{call_function, call_in_table};
-use crate::choices::{drop_one, select_of_two};
-use crate::ends::end;
-use crate::globals::{get_global, set_global};
-use crate::immediates::{next_block, next_byte, next_index, next_memarg, pass_i32, pass_i64};
-use crate::locals::{local_get, local_set, local_tee};
-use crate::numbers::{compute, constant};
+use crate::told::{Told, tell};
 use std::alloc::Allocator;
-use wasm_operators_plain::readers::BinaryReader;
-use wasm_operators_plain::{
-    NumberType, access_from_opcode, numeric_from_opcode, signature_in_place,
+use wasm_typing_fast::operators_plain::{
+    BinaryReader, NumberType, access_from_opcode, numeric_from_opcode, signature_in_place,
 };
-use wasm_typing_control::NotTaken;
-use wasm_typing_control::typing_stacks::Stacks;
-use wasm_typing_control::validator_resources::WasmModuleResources;
+use wasm_typing_fast::typing_control::{Stacks, WasmModuleResources};
+use wasm_typing_fast::{
+    NotTaken, access, branch_away, branch_perhaps, call_function, call_in_table, compute, constant,
+    do_nothing, drop_one, end, get_global, local_get, local_set, local_tee, next_block, next_byte,
+    next_index, next_memarg, open_block, open_if, open_loop, pass_i32, pass_i64, return_all,
+    select_of_two, set_global, trap,
+};
 
 /// A numeric operator, a load or a store.
 #[inline(always)]
@@ -39,6 +34,7 @@ fn step_by_table<A: Allocator, T: WasmModuleResources>(
     ensures took { Fuses result (T.context resources.now) opcode reader.old
         stacks.old reader.new stacks.new }
     ensures same { Kept stacks.old stacks.new }
+    ensures plain { IsPlain result opcode }
 {
     match numeric_from_opcode(opcode) {
         Some(op) => {
@@ -70,40 +66,65 @@ fn step_structural<A: Allocator, T: WasmModuleResources>(
     stacks: &mut Stacks<A>,
     resources: &T,
     opcode: u8,
-) -> Result<(), NotTaken>
+) -> Result<Told, NotTaken>
     ensures input { SameInput reader.old reader.new }
     ensures onward { position_in reader.old ≤ position_in reader.new }
     ensures took { Fuses result (T.context resources.now) opcode reader.old
         stacks.old reader.new stacks.new }
     ensures same { Kept stacks.old stacks.new }
+    ensures told { Tells result opcode }
 {
     match opcode {
-        0x00 => trap(stacks, resources),
-        0x01 => do_nothing(stacks, resources),
-        0x02 => open_block(stacks, resources, next_block(reader)?),
-        0x03 => open_loop(stacks, resources, next_block(reader)?),
-        0x04 => open_if(stacks, resources, next_block(reader)?),
-        0x0b => end(stacks, resources),
-        0x0c => branch_away(stacks, resources, next_index(reader)?),
-        0x0d => branch_perhaps(stacks, resources, next_index(reader)?),
-        0x0f => return_all(stacks, resources),
-        0x10 => call_function(stacks, resources, next_index(reader)?),
+        0x00 => tell(trap(stacks, resources), Told::Quiet),
+        0x01 => tell(do_nothing(stacks, resources), Told::Quiet),
+        0x02 => tell(
+            open_block(stacks, resources, next_block(reader)?),
+            Told::Opens,
+        ),
+        0x03 => tell(
+            open_loop(stacks, resources, next_block(reader)?),
+            Told::OpensLoop,
+        ),
+        0x04 => tell(
+            open_if(stacks, resources, next_block(reader)?),
+            Told::OpensThen,
+        ),
+        0x0b => tell(end(stacks, resources), Told::Closes),
+        0x0c => tell(
+            branch_away(stacks, resources, next_index(reader)?),
+            Told::Branches,
+        ),
+        0x0d => tell(
+            branch_perhaps(stacks, resources, next_index(reader)?),
+            Told::BranchesPerhaps,
+        ),
+        0x0f => tell(return_all(stacks, resources), Told::Quiet),
+        0x10 => tell(
+            call_function(stacks, resources, next_index(reader)?),
+            Told::Quiet,
+        ),
         0x11 => {
             let type_index = next_index(reader)?;
             let table_index = next_index(reader)?;
-            call_in_table(stacks, resources, type_index, table_index)
+            tell(
+                call_in_table(stacks, resources, type_index, table_index),
+                Told::Quiet,
+            )
         }
-        0x1a => drop_one(stacks, resources),
-        0x1b => select_of_two(stacks, resources),
+        0x1a => tell(drop_one(stacks, resources), Told::Quiet),
+        0x1b => tell(select_of_two(stacks, resources), Told::Quiet),
         0x41 => {
             pass_i32(reader)?;
-            constant(stacks, resources, NumberType::I32)
+            tell(constant(stacks, resources, NumberType::I32), Told::Quiet)
         }
         0x42 => {
             pass_i64(reader)?;
-            constant(stacks, resources, NumberType::I64)
+            tell(constant(stacks, resources, NumberType::I64), Told::Quiet)
         }
-        _ => step_by_table(reader, stacks, resources, opcode),
+        _ => tell(
+            step_by_table(reader, stacks, resources, opcode),
+            Told::Quiet,
+        ),
     }
 }
 
@@ -115,19 +136,35 @@ fn step_by_opcode<A: Allocator, T: WasmModuleResources>(
     stacks: &mut Stacks<A>,
     resources: &T,
     opcode: u8,
-) -> Result<(), NotTaken>
+) -> Result<Told, NotTaken>
     ensures input { SameInput reader.old reader.new }
     ensures onward { position_in reader.old ≤ position_in reader.new }
     ensures took { Fuses result (T.context resources.now) opcode reader.old
         stacks.old reader.new stacks.new }
     ensures same { Kept stacks.old stacks.new }
+    ensures told { Tells result opcode }
 {
     match opcode {
-        0x20 => local_get(stacks, resources, next_index(reader)?),
-        0x21 => local_set(stacks, resources, next_index(reader)?),
-        0x22 => local_tee(stacks, resources, next_index(reader)?),
-        0x23 => get_global(stacks, resources, next_index(reader)?),
-        0x24 => set_global(stacks, resources, next_index(reader)?),
+        0x20 => tell(
+            local_get(stacks, resources, next_index(reader)?),
+            Told::Quiet,
+        ),
+        0x21 => tell(
+            local_set(stacks, resources, next_index(reader)?),
+            Told::Quiet,
+        ),
+        0x22 => tell(
+            local_tee(stacks, resources, next_index(reader)?),
+            Told::Quiet,
+        ),
+        0x23 => tell(
+            get_global(stacks, resources, next_index(reader)?),
+            Told::Quiet,
+        ),
+        0x24 => tell(
+            set_global(stacks, resources, next_index(reader)?),
+            Told::Quiet,
+        ),
         _ => step_structural(reader, stacks, resources, opcode),
     }
 }
@@ -140,7 +177,7 @@ fn next_step<A: Allocator, T: WasmModuleResources>(
     reader: &mut BinaryReader,
     stacks: &mut Stacks<A>,
     resources: &T,
-) -> Result<(), NotTaken>
+) -> Result<Told, NotTaken>
     ensures input { SameInput reader.old reader.new }
     ensures further { OnOk result (position_in reader.old < position_in reader.new) }
     ensures took { OnOk result (step_at (world (T.context resources.now))
@@ -148,22 +185,54 @@ fn next_step<A: Allocator, T: WasmModuleResources>(
         ≡ Some (state_of stacks.new, rest reader.new)) }
     ensures left { OnErr result (state_of stacks.new ≡ state_of stacks.old) }
     ensures same { Kept stacks.old stacks.new }
+    ensures told { IfOk result (λ t. told_at (rest reader.old) ≡ Some t) }
 {
     if !stacks.is_open {
         return Err(NotTaken::Left);
     }
     let opcode = next_byte(reader)?;
-    step_by_opcode(reader, stacks, resources, opcode)?;
-    Ok(())
+    let told = step_by_opcode(reader, stacks, resources, opcode)?;
+    Ok(told)
 }
 
 /// Reads the next operator and takes its step, where it is a frequent one and its operands are of
-/// known types: those that a compiler's output is made of.
+/// known types: those that a compiler's output is made of. Tells what it does to blocks and labels.
 ///
 /// # Errors
 ///
 /// Where it isn't, or the bytes or the operator are wrong in any way, and where a stack's growth is
 /// refused its memory. Nothing has changed then, and the reader stands where it stood.
+#[inline(always)]
+pub fn told_step<A: Allocator, T: WasmModuleResources>(
+    reader: &mut BinaryReader,
+    stacks: &mut Stacks<A>,
+    resources: &T,
+) -> Result<Told, NotTaken>
+    ensures input { SameInput reader.old reader.new }
+    ensures further { OnOk result (position_in reader.old < position_in reader.new) }
+    ensures took { OnOk result (step_at (world (T.context resources.now))
+        (around stacks.old (T.context resources.now)) (state_of stacks.old) (rest reader.old)
+        ≡ Some (state_of stacks.new, rest reader.new)) }
+    ensures unread { OnErr result (reader.new ≡ reader.old) }
+    ensures left { OnErr result (state_of stacks.new ≡ state_of stacks.old) }
+    ensures same { Kept stacks.old stacks.new }
+    ensures told { IfOk result (λ t. told_at (rest reader.old) ≡ Some t) }
+{
+    let mut ahead = *reader;
+    match next_step(&mut ahead, stacks, resources) {
+        Ok(told) => {
+            reader.go_on_from(&ahead);
+            Ok(told)
+        }
+        Err(error) => Err(error),
+    }
+}
+
+/// As [`told_step`], and tells nothing.
+///
+/// # Errors
+///
+/// As [`told_step`].
 #[inline(always)]
 pub fn fast_step<A: Allocator, T: WasmModuleResources>(
     reader: &mut BinaryReader,
@@ -179,12 +248,6 @@ pub fn fast_step<A: Allocator, T: WasmModuleResources>(
     ensures left { OnErr result (state_of stacks.new ≡ state_of stacks.old) }
     ensures same { Kept stacks.old stacks.new }
 {
-    let mut ahead = *reader;
-    match next_step(&mut ahead, stacks, resources) {
-        Ok(()) => {
-            reader.go_on_from(&ahead);
-            Ok(())
-        }
-        Err(error) => Err(error),
-    }
+    let _told = told_step(reader, stacks, resources)?;
+    Ok(())
 }

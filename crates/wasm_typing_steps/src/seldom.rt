@@ -1,21 +1,21 @@
 //! Operators that compilers write less often, read without refusals.
 
 ghost use Rattle.std.specs.Prelude.{◌≡◌, ◌≤◌, ◌<◌, Some, IfSome, OnSome};
-ghost use Rattle.wasm_readers.specs.WasmReadersBytes.Reader.{SameInput, position_in, rest};
-ghost use Rattle.wasm_readers.specs.WrittenIndices.{written};
-ghost use Rattle.wasm_readers_types.specs.WasmReadersValues.SeenValues.{heap_of};
-ghost use Rattle.wasm_operators.specs.WasmOperatorsPlain.WasmSpec.BinaryTypes.{heap_at};
-ghost use Rattle.wasm_operators.specs.WasmOperatorsPlain.Constants.{bits_32_at, bits_64_at};
-ghost use Rattle.wasm_operators.specs.WasmOperatorsPlain.Numeric.{saturating_from};
-ghost use Rattle.wasm_operators.specs.Instructions.{bulk_from, constant, plain_from, instruction_at};
-ghost use Rattle.wasm_operators.specs.SeenOperators.{operator_of};
+ghost use Rattle.wasm_typing_fast.specs.WasmReadersBytes.Reader.{SameInput, position_in, rest};
+ghost use Rattle.wasm_typing_fast.specs.WasmOperatorsPlain.WasmReaders.WrittenIndices.{written};
+ghost use Rattle.wasm_typing_fast.specs.WasmReadersValues.SeenValues.{heap_of};
+ghost use Rattle.wasm_typing_fast.specs.WasmSpec.BinaryTypes.{heap_at};
+ghost use Rattle.wasm_typing_fast.specs.WasmOperatorsPlain.Constants.{bits_32_at, bits_64_at};
+ghost use Rattle.wasm_typing_fast.specs.WasmOperatorsPlain.Numeric.{saturating_from};
+ghost use Rattle.wasm_typing_fast.specs.WasmOperators.Instructions.{bulk_from, constant, plain_from, instruction_at};
+ghost use Rattle.wasm_typing_fast.specs.WasmOperators.SeenOperators.{operator_of};
 
-use wasm_operators::{
+use wasm_typing_fast::operators::{
     BulkMemoryOperator, ConstantOperator, ControlOperator, Ieee32, Ieee64, Operator,
     ParametricOperator, ReferenceOperator, SaturatingOperator, TableOperator,
 };
-use wasm_readers::BinaryReader;
-use wasm_readers_types::{AbstractHeapType, HeapType};
+use wasm_typing_fast::operators_plain::BinaryReader;
+use wasm_typing_fast::readers_types::{AbstractHeapType, HeapType};
 
 /// The bits of four bytes, the least significant first, if they are there.
 #[inline(always)]
@@ -54,7 +54,7 @@ fn next_bits_64(reader: &mut BinaryReader) -> Option<u64>
 /// anywhere in its input.
 #[inline(always)]
 #[tactic(auto, unfolding(crate::proofs::Cited::instruction_at, crate::proofs::Cited::plain_from, crate::proofs::Cited::constant_from))]
-pub(crate) fn next_float(reader: &mut BinaryReader) -> Option<ConstantOperator>
+pub fn next_float(reader: &mut BinaryReader) -> Option<ConstantOperator>
     ensures same { SameInput reader.old reader.new }
     ensures some { IfSome result (λ op. instruction_at written (rest reader.old)
         ≡ Some (constant op, rest reader.new)) }
@@ -181,7 +181,7 @@ fn next_on_values<'a>(reader: &mut BinaryReader<'a>, opcode: u8) -> Option<Opera
 
 /// Whether an operator that is read here begins with this byte.
 #[inline(always)]
-pub(crate) fn is_seldom(opcode: u8) -> bool {
+pub fn is_seldom(opcode: u8) -> bool {
     match opcode {
         0x05 | 0x0b | 0x1b | 0x25 | 0x26 | 0x3f | 0x40 | 0x43 | 0x44 => true,
         0xd0 | 0xd1 | 0xd2 | 0xfc => true,
@@ -193,7 +193,7 @@ pub(crate) fn is_seldom(opcode: u8) -> bool {
 /// anywhere in its input.
 #[inline]
 #[tactic(auto, unfolding(crate::proofs::Cited::instruction_at, crate::proofs::Cited::plain_from, crate::proofs::Cited::prefixed_from, crate::proofs::Cited::control_from, crate::proofs::Cited::parametric_from))]
-pub(crate) fn next_seldom<'a>(reader: &mut BinaryReader<'a>) -> Option<Operator<'a>>
+pub fn next_seldom<'a>(reader: &mut BinaryReader<'a>) -> Option<Operator<'a>>
     ensures same { SameInput reader.old reader.new }
     ensures some { IfSome result (λ op. instruction_at written (rest reader.old)
         ≡ Some (operator_of op, rest reader.new)) }

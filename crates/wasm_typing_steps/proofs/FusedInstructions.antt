@@ -3,43 +3,46 @@ use Rattle.std.proofs.Common.{◌≡◌, ◌≤◌, ◌<◌, ◌==◌, ℕ, ℤ,
 use Rattle.std.specs.Option.{option_map}
 use Rattle.std.specs.Prelude.{Some, None, Option, Result, Ok, Err, nat_lt}
 use Rattle.std.proofs.lemmas.Bool.Decides.{nat_tests}
-use Rattle.wasm_spec.specs.Values.{u32_at, signed_at}
-use Rattle.wasm_typing_control.specs.WasmTypingChecks.WasmSpecRules.Contexts.{Context}
-use Rattle.wasm_operators_plain.specs.WasmReaders.WrittenIndices.{written}
-use Rattle.wasm_readers_types.specs.WasmReadersValues.declared.indices.UnpackedIndex.{UnpackedIndex}
-use Rattle.wasm_operators_plain.specs.Calls.{call_from}
-use Rattle.wasm_operators_plain.specs.Variables.{variable_from}
-use Rattle.wasm_operators_plain.specs.Constants.{constant_from}
-use Rattle.wasm_operators_plain.specs.Memories.{access_from, memarg_at}
-use Rattle.wasm_operators_plain.specs.declared.calls.CallOperator.TheVariants.{Call, CallIndirect}
-use Rattle.wasm_operators_plain.specs.declared.memories.MemoryOperator.{MemoryOperator}
-use Rattle.wasm_operators_plain.specs.declared.memories.MemArg.{MemArg}
-use Rattle.wasm_operators_plain.specs.declared.variables.VariableOperator.TheVariants.{LocalGet, LocalSet, LocalTee, GlobalGet, GlobalSet}
-use Rattle.wasm_operators_plain.specs.declared.constants.ConstantOperator.TheVariants.{I32Const, I64Const}
-use Rattle.wasm_operators_plain.specs.Numeric.{numeric_from}
-use Rattle.wasm_operators_plain.specs.Signatures.{signature_of}
-use Rattle.wasm_operators_plain.specs.declared.numeric.NumericOperator.{NumericOperator}
-use Rattle.wasm_operators_plain.specs.declared.signatures.NumberType.{NumberType}
-use Rattle.wasm_operators_plain.specs.declared.signatures.NumberType.TheVariants as number
-use Rattle.wasm_operators_plain.specs.declared.signatures.Signature.{Signature}
-use Rattle.wasm_operators.specs.Control.{Block, block_at, parametric_from, drop_, select, control_from, block, loop, if_, end_, br, br_if, return_, nop, unreachable}
-use Rattle.wasm_operators.specs.Continuations.{continuation_from}
-use Rattle.wasm_operators.specs.Instructions.{Instruction, instruction_at, plain_from, variable, constant, numeric, parametric, control, call, access}
-use Rattle.wasm_operators.specs.Maps.{map_block, map_instruction}
-use Rattle.wasm_typing_control.specs.WasmTypingChecks.WasmSpecSteps.Actions.{allows}
-use Rattle.wasm_typing_control.specs.WasmTypingChecks.WasmSpecSteps.Machine.{State}
-use Rattle.wasm_typing_control.specs.WasmTypingChecks.WasmSpecSteps.Shapes.{Shape, shape_of, call_shape, variable_shape, computing, dropping, choosing, access_shape, control_shape, plain, one, nothing, closing, number_type}
-use Rattle.wasm_typing_control.specs.WasmTypingChecks.WasmSpecRules.Attempts.{◌>>=◌}
-use Rattle.wasm_typing_control.specs.WasmTypingChecks.WasmSpecSteps.Steps.{is_open, step_in, actions_of}
-use Rattle.wasm_typing_control.specs.WasmTypingChecks.WasmValidatorResources.Answers.{world, written_index}
-use Rattle.wasm_typing_control.specs.WasmTypingChecks.WasmTypingStacks.BodyStacks.{state_of, around}
-use Rattle.wasm_typing_control.specs.WasmTypingChecks.WasmTypingStacks.declared.stacks.Stacks.{Stacks}
-use Rattle.wasm_typing_control.specs.WasmTypingChecks.Steps.{acted}
+use Rattle.wasm_typing_fast.specs.WasmSpec.Values.{u32_at, signed_at}
+use Rattle.wasm_typing_fast.specs.WasmTypingControl.WasmTypingChecks.WasmSpecRules.Contexts.{Context}
+use Rattle.wasm_typing_fast.specs.WasmOperatorsPlain.WasmReaders.WrittenIndices.{written}
+use Rattle.wasm_typing_fast.specs.WasmReadersValues.declared.indices.UnpackedIndex.{UnpackedIndex}
+use Rattle.wasm_typing_fast.specs.WasmOperatorsPlain.Calls.{call_from}
+use Rattle.wasm_typing_fast.specs.WasmOperatorsPlain.Variables.{variable_from}
+use Rattle.wasm_typing_fast.specs.WasmOperatorsPlain.Constants.{constant_from}
+use Rattle.wasm_typing_fast.specs.WasmOperatorsPlain.Memories.{access_from, memarg_at}
+use Rattle.wasm_typing_fast.specs.WasmOperatorsPlain.declared.calls.CallOperator.TheVariants.{Call, CallIndirect}
+use Rattle.wasm_typing_fast.specs.WasmOperatorsPlain.declared.memories.MemoryOperator.{MemoryOperator}
+use Rattle.wasm_typing_fast.specs.WasmOperatorsPlain.declared.memories.MemArg.{MemArg}
+use Rattle.wasm_typing_fast.specs.WasmOperatorsPlain.declared.variables.VariableOperator.TheVariants.{LocalGet, LocalSet, LocalTee, GlobalGet, GlobalSet}
+use Rattle.wasm_typing_fast.specs.WasmOperatorsPlain.declared.constants.ConstantOperator.TheVariants.{I32Const, I64Const}
+use Rattle.wasm_typing_fast.specs.WasmOperatorsPlain.Numeric.{numeric_from}
+use Rattle.wasm_typing_fast.specs.WasmOperatorsPlain.Signatures.{signature_of}
+use Rattle.wasm_typing_fast.specs.WasmOperatorsPlain.declared.numeric.NumericOperator.{NumericOperator}
+use Rattle.wasm_typing_fast.specs.WasmOperatorsPlain.declared.signatures.NumberType.{NumberType}
+use Rattle.wasm_typing_fast.specs.WasmOperatorsPlain.declared.signatures.NumberType.TheVariants as number
+use Rattle.wasm_typing_fast.specs.WasmOperatorsPlain.declared.signatures.Signature.{Signature}
+use Rattle.wasm_typing_fast.specs.WasmOperators.Control.{Block, block_at, parametric_from, drop_, select, control_from, block, loop, if_, end_, br, br_if, return_, nop, unreachable}
+use Rattle.wasm_typing_fast.specs.WasmOperators.Continuations.{continuation_from}
+use Rattle.wasm_typing_fast.specs.WasmOperators.Instructions.{Instruction, instruction_at, plain_from, variable, constant, numeric, parametric, control, call, access}
+use Rattle.wasm_typing_fast.specs.WasmOperators.Maps.{map_block, map_instruction}
+use Rattle.wasm_typing_fast.specs.WasmTypingControl.WasmTypingChecks.WasmSpecSteps.Actions.{allows}
+use Rattle.wasm_typing_fast.specs.WasmTypingControl.WasmTypingChecks.WasmSpecSteps.Machine.{State}
+use Rattle.wasm_typing_fast.specs.WasmTypingControl.WasmTypingChecks.WasmSpecSteps.Shapes.{Shape, shape_of, call_shape, variable_shape, computing, dropping, choosing, access_shape, control_shape, plain, one, nothing, closing, number_type}
+use Rattle.wasm_typing_fast.specs.WasmTypingControl.WasmTypingChecks.WasmSpecRules.Attempts.{◌>>=◌}
+use Rattle.wasm_typing_fast.specs.WasmTypingControl.WasmTypingChecks.WasmSpecSteps.Steps.{is_open, step_in, actions_of}
+use Rattle.wasm_typing_fast.specs.WasmTypingControl.WasmTypingChecks.WasmValidatorResources.Answers.{world, written_index}
+use Rattle.wasm_typing_fast.specs.WasmTypingControl.WasmTypingChecks.WasmTypingStacks.BodyStacks.{state_of, around}
+use Rattle.wasm_typing_fast.specs.WasmTypingControl.WasmTypingChecks.WasmTypingStacks.declared.stacks.Stacks.{Stacks}
+use Rattle.wasm_typing_fast.specs.WasmTypingControl.WasmTypingChecks.Steps.{acted}
 use Rattle.wasm_typing_fast.specs.Blocks.{block_giving, block_named}
-use Rattle.wasm_typing_control.specs.FastSteps.{Fast}
-use Rattle.wasm_typing_fast.specs.InstructionSteps.{Fused, performed, performed_from, step_at}
+use Rattle.wasm_typing_fast.specs.WasmTypingControl.FastSteps.{Fast}
+use Rattle.wasm_typing_steps.specs.InstructionSteps.{Fused, performed, performed_from, step_at}
 use Rattle.wasm_typing_fast.specs.SignedNumbers.{behind_signed}
-use Rattle.wasm_typing_control.specs.declared.not_taken.NotTaken.{NotTaken}
+use Rattle.wasm_typing_fast.specs.WasmTypingControl.declared.not_taken.NotTaken.{NotTaken}
+use Rattle.wasm_typing_steps.specs.declared.told.Told.{Told}
+use Rattle.wasm_typing_steps.specs.declared.told.Told.TheVariants.{Quiet}
+use Rattle.wasm_typing_steps.specs.ToldSteps.{told_of, told_at, told_as, Tells, IsPlain}
 
 below : (b m : ℕ) → b < m → nat_lt b m ≡ true
 below b m h = grind (arith, nat_tests)
@@ -87,9 +90,74 @@ is_plain : (b : ℕ) (bytes : List ℕ) (i : Instruction UnpackedIndex × List �
 is_plain b bytes i true e f = e
 is_plain b bytes i false e f = let n : plain_from written b bytes ≡ None = no_plain b bytes (under b 0xfb e) in absurd cc
 
-pub fused_left : (e : NotTaken) (o : Option (State UnpackedIndex × List ℕ)) (old new : State UnpackedIndex) (bytes : List ℕ) → new ≡ old → Fused (Err e) o old new bytes
+pub fused_left : (e : NotTaken) (o : Option (State UnpackedIndex × List ℕ)) (old new : State UnpackedIndex) (bytes : List ℕ) → new ≡ old → Fused {X = Unit {0}} (Err e) o old new bytes
 unfolding Fused
 fused_left e o old new bytes h = h
+
+pub told_left : (e : NotTaken) (o : Option (State UnpackedIndex × List ℕ)) (old new : State UnpackedIndex) (bytes : List ℕ) → new ≡ old → Fused {X = Told} (Err e) o old new bytes
+unfolding Fused
+told_left e o old new bytes h = h
+
+-- a step, and what is told of it
+pub fused_told : (q : Result Told NotTaken) (r : Result (Unit {0}) NotTaken) (t : Told) (o : Option (State UnpackedIndex × List ℕ)) (old new : State UnpackedIndex) (bytes : List ℕ) → q ≡ told_as r t → Fused r o old new bytes → Fused q o old new bytes
+unfolding Fused told_as
+fused_told q (Ok x) t o old new bytes e p = rw e p
+fused_told q (Err y) t o old new bytes e p = rw e p
+
+between : (b : ℕ) → 0x20 ≤ b → b < 0xd0 → told_of b ≡ Some Quiet
+between b l h =
+    rw (
+      not_below b 0x02 (omega arith),
+      differ b 0x02 (omega arith),
+      differ b 0x03 (omega arith),
+      differ b 0x04 (omega arith),
+      not_below b 0x0b (omega arith),
+      differ b 0x0b (omega arith),
+      differ b 0x0c (omega arith),
+      differ b 0x0d (omega arith),
+      differ b 0x0e (omega arith),
+      not_below b 0x12 (omega arith),
+      not_below b 0x1a (omega arith),
+      not_below b 0x1c (omega arith),
+      not_below b 0x20 l,
+      below b 0xd0 h,
+    ) refl
+
+module _ (b : ℕ) (q : Result Told NotTaken) where
+  -- a step that is told so, if that is what the first byte says
+  tells : (r : Result (Unit {0}) NotTaken) (t : Told) → q ≡ told_as r t → told_of b ≡ Some t → Tells q b
+  unfolding Tells told_as
+  tells (Ok x) t e f = rw e f
+  tells (Err y) t e f = rw e tt
+
+  pub tells_of : (r : Result (Unit {0}) NotTaken) (t : Told) (k : ℕ) → b ≡ k → q ≡ told_as r t → told_of k ≡ Some t → Tells q b
+  tells_of r t k f e g = tells r t e (ap told_of f ∙ g)
+
+  pub tells_plain : (r : Result (Unit {0}) NotTaken) → q ≡ told_as r Quiet → IsPlain r b → Tells q b
+  unfolding Tells told_as IsPlain
+  tells_plain (Ok x) e h = rw e (between b h.0 h.1)
+  tells_plain (Err y) e h = rw e tt
+
+-- which opcodes the tables take
+module _ (b : ℕ) where
+  pub plain_left : (e : NotTaken) → IsPlain (Err e) b
+  unfolding IsPlain
+  plain_left e = tt
+
+  plain_at : (r : Result (Unit {0}) NotTaken) → 0x20 ≤ b → b < 0xd0 → IsPlain r b
+  unfolding IsPlain
+  plain_at (Ok x) l h = (l, h)
+  plain_at (Err y) l h = tt
+
+  pub plain_numeric : (r : Result (Unit {0}) NotTaken) → 0x45 ≤ b → b < 0xd0 → IsPlain r b
+  plain_numeric r l h = plain_at r (omega arith) h
+
+  pub plain_access : (r : Result (Unit {0}) NotTaken) → 0x28 ≤ b → b < 0x3f → IsPlain r b
+  plain_access r l h = plain_at r (omega arith) (omega arith)
+
+pub tells_left : (e : NotTaken) (b : ℕ) → Tells (Err e) b
+unfolding Tells
+tells_left e b = tt
 
 -- a block type that is read, as it is written
 again : (g : Option NumberType) → map_block written_index (block_named g) ≡ block_giving g
@@ -283,11 +351,11 @@ module _ {A : Type 0} (v : Stacks A) (C : Context UnpackedIndex) (r : Result (Un
   pub at_numeric : (op : NumericOperator) (g : Signature) → 0x45 ≤ b → b < 0xd0 → Some op ≡ numeric_from b → g ≡ signature_of op → Fast r (acted v C (actions_of (computing g))) old new → Fused r (performed_from v C b bytes) old new bytes
   at_numeric op g l h f s k = fuse v C r b bytes bytes old new r (numeric op) (read_numeric b op bytes l h (sym f)) (subst (λ (x : Signature). Fast r (acted v C (actions_of (computing x))) old new) s k)
 
-pub ruleset variables = (fused_left, at_get, at_set, at_tee, at_global, at_put)
+pub ruleset variables = (told_left, fused_told, tells_left, tells_of, at_get, at_set, at_tee, at_global, at_put)
 
-pub ruleset structures = (fused_left, at_block, at_loop, at_if, at_end, at_br, at_br_if, at_return, at_unreachable, at_nop, at_call, at_call_indirect, at_drop, at_select, at_i32, at_i64)
+pub ruleset structures = (told_left, fused_told, tells_left, tells_of, tells_plain, at_block, at_loop, at_if, at_end, at_br, at_br_if, at_return, at_unreachable, at_nop, at_call, at_call_indirect, at_drop, at_select, at_i32, at_i64)
 
-pub ruleset tables = (fused_left, at_numeric, at_access)
+pub ruleset tables = (fused_left, plain_left, plain_numeric, plain_access, at_numeric, at_access)
 
 -- in a frame that is open
 module _ {A : Type 0} (v : Stacks A) (C : Context UnpackedIndex) (b : ℕ) (bytes behind rest : List ℕ) (old new : State UnpackedIndex) where
@@ -303,12 +371,17 @@ module _ {A : Type 0} (v : Stacks A) (C : Context UnpackedIndex) (b : ℕ) (byte
   performs_one None e f g p = cc
   performs_one (Some i) e f g p = rw (f, is_plain b behind i (nat_lt b 0xfb) refl g, g) (ap (λ o. o >>= λ t. Some (t, i.1)) (stepped (map_instruction written_index i.0) e) ∙ p)
 
-  pub is_taken : (x : Unit {0}) → v.is_open ≡ true → bytes ≡ b ∷ behind → Fused (Ok x) (performed_from v C b behind) old new rest → step_at (world C) (around v C) (state_of v) bytes ≡ Some (new, rest)
+  pub is_taken : (x : Told) → v.is_open ≡ true → bytes ≡ b ∷ behind → Fused (Ok x) (performed_from v C b behind) old new rest → step_at (world C) (around v C) (state_of v) bytes ≡ Some (new, rest)
   unfolding Fused performed_from
   is_taken x e f p = performs_one (plain_from written b behind) e f refl p
 
-pub not_taken : (y : NotTaken) (o : Option (State UnpackedIndex × List ℕ)) (old new : State UnpackedIndex) (rest : List ℕ) → Fused (Err y) o old new rest → new ≡ old
+-- the first byte of the bytes that are read
+pub is_told : (t : Told) (b : ℕ) (bytes behind : List ℕ) → bytes ≡ b ∷ behind → Tells (Ok t) b → told_at bytes ≡ Some t
+unfolding Tells told_at
+is_told t b bytes behind e h = rw e h
+
+pub not_taken : (y : NotTaken) (o : Option (State UnpackedIndex × List ℕ)) (old new : State UnpackedIndex) (rest : List ℕ) → Fused {X = Told} (Err y) o old new rest → new ≡ old
 unfolding Fused
 not_taken y o old new rest p = p
 
-pub ruleset steps = (is_taken, not_taken)
+pub ruleset steps = (is_taken, is_told, not_taken)

@@ -1,0 +1,2 @@
+pub mod FusedInstructions
+pub mod Cited
