@@ -21,5 +21,5 @@ pub use wasm_typing_arity::{
 };
 pub use wasm_typing_blocks::typing_checks::{OperatorError, OperatorFault};
 pub use wasm_typing_blocks::typing_stacks::{MAX_LOCALS, Operand, TypeWord, Word};
-pub use wasm_typing_steps::{NotTaken, pass_i32, pass_i64};
+pub use wasm_typing_steps::{NotTaken, Told, pass_i32, pass_i64};
 pub use written_types::{is_written_operator, is_written_type};

@@ -64,6 +64,14 @@ impl<A: Allocator> OperatorValidator<A> {
         }
     }
 
+    /// How many operands there are.
+    #[inline(always)]
+    pub fn len_operands(&self) -> usize
+        ensures { result ≡ length (typed_state self.now).operands }
+    {
+        self.stacks.operands.len()
+    }
+
     /// How many operands there are, and 2³² - 1 where there are more.
     pub fn operand_stack_height(&self) -> u32
         ensures few { length (typed_state self.now).operands < 2 ^ 32
