@@ -79,7 +79,7 @@ GROUPS = [
     (
         "validate",
         "Bodies",
-        ["wasm_validator_func", "wasm_typing_validator", "wasm_typing_stacks", "wasm_typing_checks", "wasm_typing_control/not_taken"],
+        ["wasm_validator_func", "wasm_typing_validator", "wasm_typing_stacks", "wasm_typing_checks", "wasm_typing_control/not_taken", "wasm_typing_steps/told"],
     ),
     ("validate", "What bodies and expressions look up", ["wasm_validator_resources", "wasm_validator_core_resources", "wasm_validator_references"]),
     (

@@ -65,6 +65,7 @@ pub use wasm_validator_modules::operator_validator::OperatorFault;
 pub use wasm_validator_modules::operator_validator::OperatorValidator;
 pub use wasm_validator_modules::operator_validator::OperatorValidatorAllocations;
 pub use wasm_validator_modules::operator_validator::OperatorVisitor;
+pub use wasm_validator_modules::operator_validator::Told;
 pub use wasm_validator_modules::operator_validator::TypeWord;
 pub use wasm_validator_modules::operator_validator::Word;
 pub use wasm_validator_modules::operator_validator::is_written_operator;

@@ -1,16 +1,17 @@
 //! Operators as they stand in bytes, one by one and fast.
 
-ghost use Rattle.std.specs.Prelude.{◌≡◌, ◌<◌, Some, true, false, is_ok, OnOk, OnErr};
+ghost use Rattle.std.specs.Prelude.{◌≡◌, ◌<◌, Some, true, false, is_ok, length, IfOk, OnOk, OnErr};
 ghost use Rattle.wasm_readers_bytes.specs.Reader.{SameInput, position_in, rest};
 ghost use Rattle.wasm_spec_steps.specs.Steps.{is_finished};
 ghost use Rattle.wasm_typing_validator.specs.WasmTypingStacks.BodyStacks.{Kept};
+ghost use Rattle.wasm_typing_validator.specs.WasmTypingSteps.ToldSteps.{told_at};
 ghost use Rattle.wasm_typing_validator.specs.BodyTyping.{typed_state};
 ghost use Rattle.wasm_typing_validator.specs.StepsFromBytes.{stepped};
 
 use crate::func_validator::FuncValidator;
 use std::alloc::Allocator;
 use wasm_readers::BinaryReader;
-use wasm_typing_validator::NotTaken;
+use wasm_typing_validator::{NotTaken, Told};
 use wasm_validator_resources::WasmModuleResources;
 
 impl<T: WasmModuleResources, A: Allocator> FuncValidator<T, A> {
@@ -67,6 +68,64 @@ impl<T: WasmModuleResources, A: Allocator> FuncValidator<T, A> {
         ensures failed { self.new.validator.failed ≡ false }
     {
         self.validator.fast_op(&self.resources, reader)
+    }
+
+    /// As [`FuncValidator::fast_op`] of the most frequent operators alone, and tells what each does to
+    /// blocks and labels.
+    ///
+    /// # Errors
+    ///
+    /// As [`FuncValidator::frequent_op`].
+    #[inline(always)]
+    pub fn told_op<'a>(&mut self, reader: &mut BinaryReader<'a>) -> Result<Told, NotTaken>
+        requires { self.old.validator.failed ≡ false }
+        ensures took { OnOk result (stepped (T.context self.old.resources)
+            self.old.validator.stacks reader.old
+            ≡ Some (typed_state self.new.validator, rest reader.new)) }
+        ensures unread { OnErr result (reader.new ≡ reader.old) }
+        ensures left { OnErr result (typed_state self.new.validator
+            ≡ typed_state self.old.validator) }
+        ensures input { SameInput reader.old reader.new }
+        ensures further { OnOk result (position_in reader.old < position_in reader.new) }
+        ensures kept { Kept self.old.validator.stacks self.new.validator.stacks }
+        ensures same { (self.new.resources ≡ self.old.resources)
+            × (self.new.index ≡ self.old.index) }
+        ensures failed { self.new.validator.failed ≡ false }
+        ensures told { IfOk result (λ t. told_at (rest reader.old) ≡ Some t) }
+    {
+        self.validator.told_op(&self.resources, reader)
+    }
+
+    /// As [`FuncValidator::fast_op`] of those that [`FuncValidator::told_op`] leaves.
+    ///
+    /// # Errors
+    ///
+    /// As [`FuncValidator::frequent_op`].
+    #[inline(always)]
+    pub fn other_op<'a>(&mut self, reader: &mut BinaryReader<'a>) -> Result<(), NotTaken>
+        requires { self.old.validator.failed ≡ false }
+        ensures took { OnOk result (stepped (T.context self.old.resources)
+            self.old.validator.stacks reader.old
+            ≡ Some (typed_state self.new.validator, rest reader.new)) }
+        ensures unread { OnErr result (reader.new ≡ reader.old) }
+        ensures left { OnErr result (typed_state self.new.validator
+            ≡ typed_state self.old.validator) }
+        ensures input { SameInput reader.old reader.new }
+        ensures further { OnOk result (position_in reader.old < position_in reader.new) }
+        ensures kept { Kept self.old.validator.stacks self.new.validator.stacks }
+        ensures same { (self.new.resources ≡ self.old.resources)
+            × (self.new.index ≡ self.old.index) }
+        ensures failed { self.new.validator.failed ≡ false }
+    {
+        self.validator.other_op(&self.resources, reader)
+    }
+
+    /// How many operands there are.
+    #[inline(always)]
+    pub fn len_operands(&self) -> usize
+        ensures { result ≡ length (typed_state self.now.validator).operands }
+    {
+        self.validator.len_operands()
     }
 
     /// Whether every frame has ended.

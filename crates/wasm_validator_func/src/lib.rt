@@ -41,7 +41,7 @@ pub mod operators {
 pub mod operator_validator {
     pub use wasm_typing_validator::{
         Frame, FrameStack, ModuleArity, NotTaken, Operand, OperatorError, OperatorFault,
-        OperatorValidator, OperatorValidatorAllocations, OperatorVisitor, TypeWord, Word,
+        OperatorValidator, OperatorValidatorAllocations, OperatorVisitor, Told, TypeWord, Word,
         is_written_operator, is_written_type, operator_arity,
     };
 }
