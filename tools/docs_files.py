@@ -129,10 +129,10 @@ def check_width(tree):
 
 
 def check_words(tree):
-    """Documents for users have no private words, but for names in backticks; and README is short."""
+    """Documents for users have no private words, but for names in backticks and in links; and README is short."""
     for path in documents(tree):
         for at, text in paragraphs(prose(tree, path)) if path.startswith(FOR_USERS) else []:
-            found = re.search(PRIVATE, re.sub(r"`[^`]*`", "", text), re.I)
+            found = re.search(PRIVATE, re.sub(r"`[^`]*`|\]\([^()]*\)", "", text), re.I)
             if found:
                 yield f"{path}:{at}: {found[0]} is a private word"
     if README_IS_SHORT:
