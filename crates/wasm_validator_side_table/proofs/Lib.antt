@@ -3,6 +3,8 @@ pub mod Opcodes
 pub mod EntryPlaces
 pub mod NextInstructions
 pub mod FirstBytes
+pub mod ToldBytes
+pub mod LabelsKept
 pub mod InstructionBytes
 pub mod ByteSteps
 pub mod BodyLoop
