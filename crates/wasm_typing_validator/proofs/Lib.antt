@@ -8,6 +8,7 @@ pub mod WrittenInstructions
 pub mod ByteSteps
 pub mod CodeSurroundings
 pub mod FrameQueries
+pub mod LabelCounts
 pub mod Cited
 pub mod RareOperators
 pub mod BranchTables

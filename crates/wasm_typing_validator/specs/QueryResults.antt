@@ -1,12 +1,17 @@
 -- What the queries of a validator of operators show.
--- Core Specification 3.0, Appendix, Validation Algorithm (Data Structures).
-use Rattle.std.specs.Prelude.{Option, Some, None}
+-- Core Specification 3.0, Validation, Instructions (Control Instructions), and Appendix, Validation Algorithm (Data Structures).
+use Rattle.std.specs.Prelude.{ℕ, length, Option, Some, None, slice_get}
+use Rattle.std.specs.Option.{option_map}
+use Rattle.wasm_typing_blocks.specs.WasmTypingChecks.WasmSpecRules.Attempts.{◌>>=◌}
+use Rattle.wasm_typing_blocks.specs.WasmTypingChecks.WasmSpecRules.Contexts.{Context}
 use Rattle.wasm_typing_blocks.specs.WasmTypingChecks.WasmSpecRules.WasmSpec.Syntax.{Val}
 use Rattle.wasm_readers_types.specs.WasmReadersValues.declared.indices.UnpackedIndex.{UnpackedIndex}
 use Rattle.wasm_operators.specs.SeenControl.{block_of}
 use Rattle.wasm_typing_blocks.specs.WasmTypingChecks.WasmSpecSteps.Machine as machine
-use Rattle.wasm_typing_blocks.specs.WasmTypingChecks.WasmSpecSteps.Machine.{Operand, known}
+use Rattle.wasm_typing_blocks.specs.WasmTypingChecks.WasmSpecSteps.Machine.{State, Operand, known}
+use Rattle.wasm_typing_blocks.specs.WasmTypingChecks.WasmSpecSteps.Meanings.{label_by}
 use Rattle.wasm_typing_blocks.specs.WasmTypingChecks.WasmTypingStacks.SeenBlocks.{kind_of}
+use Rattle.wasm_typing_steps.specs.WasmTypingControl.Blocks.{signature_in}
 use Rattle.wasm_typing_validator.specs.declared.queries.Frame.{Frame}
 
 -- the type of an operand, where it is known
@@ -16,3 +21,7 @@ known_type _ = None
 
 abbrev pub shown_frame : Frame → machine.Frame UnpackedIndex
 shown_frame x = record { kind = kind_of x.kind; block = block_of x.block_type; height = x.height; unreachable = x.unreachable; init_height = x.init_height }
+
+-- how many operands a branch to a label takes, and how many stand below its frame
+abbrev pub label_counts_in : Context UnpackedIndex → State UnpackedIndex → ℕ → Option (ℕ × ℕ)
+label_counts_in C s l = slice_get s.frames l >>= λ x. option_map (λ g. (length (label_by x.kind g), x.height)) (signature_in C x.block)

@@ -3,16 +3,20 @@
 ghost use Rattle.std.specs.Prelude.{◌≡◌, ◌≤◌, ◌<◌, ◌^◌, ◌-◌, length, slice_get};
 ghost use Rattle.std.specs.Option.{option_map};
 ghost use Rattle.wasm_readers_types.specs.WasmReadersValues.SeenValues.{val_of};
+ghost use Rattle.wasm_typing_blocks.specs.WasmTypingChecks.WasmSpecSteps.Meanings.{label_by};
+ghost use Rattle.wasm_typing_blocks.specs.WasmTypingChecks.WasmTypingStacks.SeenBlocks.{block_in, kind_of};
+ghost use Rattle.wasm_typing_steps.specs.WasmTypingControl.Blocks.{function_in, signature_in};
 ghost use Rattle.wasm_typing_validator.specs.BodyTyping.{typed_state, locals_in};
-ghost use Rattle.wasm_typing_validator.specs.QueryResults.{known_type, shown_frame};
+ghost use Rattle.wasm_typing_validator.specs.QueryResults.{known_type, shown_frame, label_counts_in};
 
 use crate::validator::OperatorValidator;
 use std::alloc::Allocator;
 use wasm_operators::{BlockType, FrameKind};
 use wasm_readers::readers_errors::WasmFeatures;
-use wasm_readers_types::ValType;
-use wasm_typing_blocks::typing_stacks::Operand;
-use wasm_typing_steps::typing_control::frame_at;
+use wasm_readers_types::{CompositeInnerType, ValType};
+use wasm_typing_blocks::typing_stacks::{BlockWord, Operand};
+use wasm_typing_blocks::validator_resources::WasmModuleResources;
+use wasm_typing_steps::typing_control::{Block, frame_at};
 
 /// A control frame (Core Specification 3.0, Appendix, Validation Algorithm): what opened it, its
 /// block type, how many operands stood below and how many locals had been set before it, and
@@ -35,6 +39,66 @@ fn as_far_as_counted(height: usize) -> u32
         height as u32
     } else {
         4_294_967_295
+    }
+}
+
+/// How many operands a branch to the label of a frame of this kind takes, whose block has the function
+/// type of this type index, if it is one, with how many operands stand below it.
+#[cold]
+#[inline(never)]
+fn function_counts<T: WasmModuleResources>(
+    resources: &T,
+    kind: FrameKind,
+    type_index: u32,
+    height: usize,
+) -> Option<(usize, usize)>
+    ensures { result ≡ option_map (λ g. (length (label_by (kind_of kind) g), height))
+        (function_in (T.context resources.now) type_index) }
+{
+    match resources.sub_type_at(type_index) {
+        Some(sub) => match &sub.composite_type.inner {
+            CompositeInnerType::Func(signature) => match kind {
+                FrameKind::Loop => Some((signature.params().len(), height)),
+                FrameKind::Block
+                | FrameKind::If
+                | FrameKind::Else
+                | FrameKind::TryTable
+                | FrameKind::LegacyTry
+                | FrameKind::LegacyCatch
+                | FrameKind::LegacyCatchAll => Some((signature.results().len(), height)),
+            },
+            _ => None,
+        },
+        None => None,
+    }
+}
+
+/// How many operands a branch to the label of a frame of this kind and type takes, if its block type
+/// is one, with how many operands stand below it. Only a block of a function type needs a look-up.
+#[inline(always)]
+#[tactic(auto, using(crate::proofs::LabelCounts::counts))]
+fn frame_counts<T: WasmModuleResources>(
+    resources: &T,
+    kind: FrameKind,
+    block: BlockWord,
+    height: usize,
+) -> Option<(usize, usize)>
+    ensures { result ≡ option_map (λ g. (length (label_by (kind_of kind) g), height))
+        (signature_in (T.context resources.now) (block_in block)) }
+{
+    match block.seen() {
+        Block::Empty => Some((0, height)),
+        Block::Value(_) => match kind {
+            FrameKind::Loop => Some((0, height)),
+            FrameKind::Block
+            | FrameKind::If
+            | FrameKind::Else
+            | FrameKind::TryTable
+            | FrameKind::LegacyTry
+            | FrameKind::LegacyCatch
+            | FrameKind::LegacyCatchAll => Some((1, height)),
+        },
+        Block::Func(type_index) => function_counts(resources, kind, type_index, height),
     }
 }
 
@@ -121,6 +185,24 @@ impl<A: Allocator> OperatorValidator<A> {
                 unreachable: frame.unreachable,
                 init_height: frame.init_height,
             }),
+            None => None,
+        }
+    }
+
+    /// How many operands a branch to the label at this depth takes, the innermost at 0, and how many
+    /// stand below its frame, if there is such a label: the results of its block, and the parameters
+    /// of a `loop` (Core Specification 3.0, Validation, Instructions, `br`).
+    #[inline(always)]
+    #[tactic(auto, using(crate::proofs::LabelCounts::labels))]
+    pub fn label_counts<T: WasmModuleResources>(
+        &self,
+        resources: &T,
+        depth: u32,
+    ) -> Option<(usize, usize)>
+        ensures { result ≡ label_counts_in (T.context resources.now) (typed_state self.now) depth }
+    {
+        match frame_at(&self.stacks, depth as usize) {
+            Some(frame) => frame_counts(resources, frame.kind, frame.block, frame.height),
             None => None,
         }
     }
