@@ -3,7 +3,7 @@
 ghost use Rattle.std.specs.Prelude.{◌≡◌};
 ghost use Rattle.wasm_operators.specs.SeenControl.{block_of};
 ghost use Rattle.wasm_typing_validator.specs.BodyTyping.{typed_state};
-ghost use Rattle.wasm_validator_func.specs.Labels.{block_arity_in, label_arity_in};
+ghost use Rattle.wasm_validator_func.specs.Labels.{block_arity_in, label_arity_in, label_counts_in};
 
 use crate::func_validator::FuncValidator;
 use std::alloc::Allocator;
@@ -54,5 +54,16 @@ impl<T: WasmModuleResources, A: Allocator> FuncValidator<T, A> {
             },
             None => None,
         }
+    }
+
+    /// How many operands a branch to the label at this depth takes, the innermost at 0, and how many
+    /// stand below its frame, if there is such a label: the results of its block, and the parameters
+    /// of a `loop` (Core Specification 3.0, Validation, Instructions, `br`).
+    #[inline(always)]
+    pub fn label_counts(&self, depth: u32) -> Option<(usize, usize)>
+        ensures { result ≡ label_counts_in (T.context self.now.resources)
+            (typed_state self.now.validator) depth }
+    {
+        self.validator.label_counts(&self.resources, depth)
     }
 }
