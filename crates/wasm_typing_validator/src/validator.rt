@@ -177,7 +177,7 @@ impl<A: Allocator> OperatorValidator<A> {
     ) -> Result<(), OperatorError>
         requires { IsSome (function_in (T.context resources.now) type_index) }
         ensures begins { OnOk result (BeginsBody self.new (T.context resources.now) type_index) }
-        ensures features { OnOk result (self.new.stacks.features ≡ features) }
+        ensures features { self.new.stacks.features ≡ features }
         ensures many { HasMany result (function_in (T.context resources.now) type_index) }
         ensures failed { self.new.failed ≡ not (is_ok result) }
     {
