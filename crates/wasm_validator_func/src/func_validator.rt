@@ -105,7 +105,7 @@ fn check_function_type<T: WasmModuleResources>(resources: &T, ty: u32) -> Result
 /// Refuses, at 0, a type's index that names no function type, and more than 50,000 parameters;
 /// answers want of memory.
 #[tactic(auto, using(crate::proofs::Functions::starts))]
-fn begin<A: Allocator, T: WasmModuleResources>(
+pub(crate) fn begin<A: Allocator, T: WasmModuleResources>(
     validator: &mut OperatorValidator<A>,
     resources: &T,
     ty: u32,
@@ -114,6 +114,8 @@ fn begin<A: Allocator, T: WasmModuleResources>(
     ensures begins { OnOk result (BeginsBody validator.new (T.context resources.now) ty) }
     ensures few { OnOk result (length (locals_in validator.new) ≤ 50000) }
     ensures features { OnOk result (validator.new.stacks.features ≡ features) }
+    ensures kept { validator.old.stacks.features ≡ features
+        → validator.new.stacks.features ≡ features }
     ensures many { HasMore result (function_in (T.context resources.now) ty) }
     ensures first { IfErr result StandsFirst }
 {

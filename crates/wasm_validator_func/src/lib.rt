@@ -12,6 +12,7 @@ mod func_validator;
 mod labels;
 mod laws;
 mod locals;
+mod next_body;
 mod next_operator;
 mod visitors;
 
