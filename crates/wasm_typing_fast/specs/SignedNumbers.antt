@@ -1,5 +1,5 @@
 -- Signed numbers that are passed: what stands behind them, and not what they are.
-use Rattle.std.specs.Prelude.{◌≡◌, ◌<◌, ◌-◌, ℕ, Bool, true, false, List, Option, Some}
+use Rattle.std.specs.Prelude.{◌≡◌, ◌<◌, ◌-◌, ℕ, Bool, true, false, List, Option, Some, None}
 use Rattle.std.specs.Option.{option_map}
 use Rattle.wasm_spec.specs.Values.{signed_at}
 
@@ -13,7 +13,11 @@ PassesShort bytes more = (bits : ℕ) → 28 < bits → behind_signed bits bytes
 
 -- four bytes of a signed number, of which more come
 unfoldable pub Precedes : List ℕ → List ℕ → Type 0
-Precedes bytes more = (bits : ℕ) (rest : List ℕ) → 28 < bits → behind_signed (bits - 28) more ≡ Some rest → behind_signed bits bytes ≡ Some rest
+Precedes bytes more = (bits : ℕ) → 28 < bits → behind_signed bits bytes ≡ behind_signed (bits - 28) more
+
+-- no signed number stands there, of however many bits
+unfoldable pub HasNoNumber : List ℕ → Type 0
+HasNoNumber bytes = (bits : ℕ) → behind_signed bits bytes ≡ None
 
 -- up to four bytes of a signed number, whether it ends with them or not
 abbrev pub Passed : Bool → List ℕ → List ℕ → Type 0

@@ -1,13 +1,13 @@
 //! Immediates, where they are there, without refusals.
 
-ghost use Rattle.std.specs.Prelude.{◌≡◌, ◌≤◌, ◌<◌, ◌∷◌, Some, IfOk, OnOk};
+ghost use Rattle.std.specs.Prelude.{◌≡◌, ◌≤◌, ◌<◌, ◌∷◌, [], Some, None, IfOk, OnOk, OnErr};
 ghost use Rattle.wasm_readers_bytes.specs.Reader.{SameInput, position_in, rest};
 ghost use Rattle.wasm_spec.specs.Values.{u32_at, u64_at};
 ghost use Rattle.wasm_operators_plain.specs.Memories.{memarg_at};
 ghost use Rattle.wasm_operators_plain.specs.WasmReaders.WrittenIndices.{written};
 ghost use Rattle.wasm_operators.specs.Control.{block_at};
 ghost use Rattle.wasm_typing_fast.specs.Blocks.{block_named};
-ghost use Rattle.wasm_typing_fast.specs.SignedNumbers.{behind_signed, Passed};
+ghost use Rattle.wasm_typing_fast.specs.SignedNumbers.{behind_signed, HasNoNumber, Passed};
 
 use wasm_operators_plain::readers::BinaryReader;
 use wasm_operators_plain::{MemArg, NumberType};
@@ -19,6 +19,7 @@ pub fn next_byte(reader: &mut BinaryReader) -> Result<u8, NotTaken>
     ensures same { SameInput reader.old reader.new }
     ensures onward { position_in reader.old ≤ position_in reader.new }
     ensures ok { IfOk result (λ byte. rest reader.old ≡ byte ∷ rest reader.new) }
+    ensures none { OnErr result (rest reader.old ≡ []) }
     ensures further { OnOk result (position_in reader.old < position_in reader.new) }
 {
     match reader.next_u8() {
@@ -94,6 +95,7 @@ fn pass_four(reader: &mut BinaryReader) -> Result<bool, NotTaken>
     ensures same { SameInput reader.old reader.new }
     ensures onward { position_in reader.old ≤ position_in reader.new }
     ensures ok { IfOk result (λ ended. Passed ended (rest reader.old) (rest reader.new)) }
+    ensures none { OnErr result (HasNoNumber (rest reader.old)) }
 {
     if next_byte(reader)? < 128 {
         return Ok(true);
@@ -117,12 +119,16 @@ fn pass_four_bits(reader: &mut BinaryReader) -> Result<(), NotTaken>
     ensures same { SameInput reader.old reader.new }
     ensures onward { position_in reader.old ≤ position_in reader.new }
     ensures ok { OnOk result (behind_signed 4 (rest reader.old) ≡ Some (rest reader.new)) }
+    ensures none { OnErr result (behind_signed 4 (rest reader.old) ≡ None) }
 {
     let byte = next_byte(reader)?;
     if byte < 8 {
         return Ok(());
     }
-    if 120 <= byte && byte < 128 {
+    if byte < 120 {
+        return Err(NotTaken::Left);
+    }
+    if byte < 128 {
         return Ok(());
     }
     Err(NotTaken::Left)
@@ -135,6 +141,7 @@ fn pass_eight_bits(reader: &mut BinaryReader) -> Result<(), NotTaken>
     ensures same { SameInput reader.old reader.new }
     ensures onward { position_in reader.old ≤ position_in reader.new }
     ensures ok { OnOk result (behind_signed 8 (rest reader.old) ≡ Some (rest reader.new)) }
+    ensures none { OnErr result (behind_signed 8 (rest reader.old) ≡ None) }
 {
     if next_byte(reader)? < 128 {
         return Ok(());
@@ -153,13 +160,14 @@ fn pass_eight_bits(reader: &mut BinaryReader) -> Result<(), NotTaken>
 ///
 /// # Errors
 ///
-/// Where it isn't. The reader may stand further on then.
+/// Where it isn't, and only there. The reader may stand further on then.
 #[inline(always)]
 #[tactic(auto, using(crate::proofs::NumberBytes::wholes))]
 pub fn pass_i32(reader: &mut BinaryReader) -> Result<(), NotTaken>
     ensures same { SameInput reader.old reader.new }
     ensures onward { position_in reader.old ≤ position_in reader.new }
     ensures ok { OnOk result (behind_signed 32 (rest reader.old) ≡ Some (rest reader.new)) }
+    ensures none { OnErr result (behind_signed 32 (rest reader.old) ≡ None) }
 {
     if pass_four(reader)? {
         return Ok(());
@@ -171,13 +179,14 @@ pub fn pass_i32(reader: &mut BinaryReader) -> Result<(), NotTaken>
 ///
 /// # Errors
 ///
-/// Where it isn't. The reader may stand further on then.
+/// Where it isn't, and only there. The reader may stand further on then.
 #[inline(always)]
 #[tactic(auto, using(crate::proofs::NumberBytes::wholes))]
 pub fn pass_i64(reader: &mut BinaryReader) -> Result<(), NotTaken>
     ensures same { SameInput reader.old reader.new }
     ensures onward { position_in reader.old ≤ position_in reader.new }
     ensures ok { OnOk result (behind_signed 64 (rest reader.old) ≡ Some (rest reader.new)) }
+    ensures none { OnErr result (behind_signed 64 (rest reader.old) ≡ None) }
 {
     if pass_four(reader)? {
         return Ok(());
