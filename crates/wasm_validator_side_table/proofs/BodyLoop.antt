@@ -26,7 +26,7 @@ use Rattle.wasm_validator_side_table.proofs.NextInstructions.{reaches_more}
 
 module _ {A : Type 0} (C : Context UnpackedIndex) (v w : OperatorValidator A) (old : BinaryReader) (kept : Kept v.stacks w.stacks) where
   -- the table
-  pub table_more :
+  table_more :
       (u : OperatorValidator A) (first new : BinaryReader) (S T U : Built) (high : ℕ)
       → Reaches (world C) (within v C) (typed_state v) S (place_of_next first) (rest first) (typed_state w) T high (place_of_next old) (rest old)
       → Advances (world C) (within w C) (typed_state w) T (place_of_next old) (rest old) (typed_state u) U (place_of_next new) (rest new)
@@ -35,6 +35,16 @@ module _ {A : Type 0} (C : Context UnpackedIndex) (v w : OperatorValidator A) (o
       let step : Advances (world C) (within v C) (typed_state w) T (place_of_next old) (rest old) (typed_state u) U (place_of_next new) (rest new) =
       subst (λ (B : Surroundings UnpackedIndex). Advances (world C) B (typed_state w) T (place_of_next old) (rest old) (typed_state u) U (place_of_next new) (rest new)) (kept_around v.stacks w.stacks C kept) advances in
       reaches_more (world C) (within v C) (typed_state v) (typed_state w) (typed_state u) S T U (place_of_next first) high (place_of_next old) (place_of_next new) (rest first) (rest old) (rest new) reaches step
+
+  -- by a height that counts its operands
+  pub table_counted :
+      (u : OperatorValidator A) (first new : BinaryReader) (S T U : Built) (high count next : ℕ) → count ≡ length (typed_state u).operands → next ≡ max high count
+      → Reaches (world C) (within v C) (typed_state v) S (place_of_next first) (rest first) (typed_state w) T high (place_of_next old) (rest old)
+      → Advances (world C) (within w C) (typed_state w) T (place_of_next old) (rest old) (typed_state u) U (place_of_next new) (rest new)
+      → Reaches (world C) (within v C) (typed_state v) S (place_of_next first) (rest first) (typed_state u) U next (place_of_next new) (rest new)
+  table_counted u first new S T U high count next many e reaches advances =
+      subst (λ (n : ℕ). Reaches (world C) (within v C) (typed_state v) S (place_of_next first) (rest first) (typed_state u) U n (place_of_next new) (rest new)) (sym (e ∙ ap (λ (n : ℕ). max high n) many))
+      (table_more u first new S T U high reaches advances)
 
   module _ (most : ℕ) (all : Option (State UnpackedIndex × List ℕ)) (open_ : is_finished (typed_state w) ≡ false) (so_far : typed_from (world C) (within v C) most (typed_state w) (rest old) ≡ all) where
     -- the instructions
@@ -57,10 +67,9 @@ stepped_same C D v w r s d k e f =
     ∙ ap (λ (t : State UnpackedIndex). step_at (world C) (within w C) t (rest r)) e
     ∙ ap (λ (B : Surroundings UnpackedIndex). step_at (world C) B (typed_state v) (rest r)) (kept_around v.stacks w.stacks C k)
 
--- what was reached, at a reader that stands there, by a height that counts it
-pub reaches_at : (W : World UnpackedIndex) (B : Surroundings UnpackedIndex) (s : State UnpackedIndex) (T : Built) (at : ℕ) (bytes : List ℕ) (t : State UnpackedIndex) (U : Built) (high height end behind : ℕ) (more next : List ℕ)
-    → high ≡ height → behind ≡ end → next ≡ more → Reaches W B s T at bytes t U high end more → Reaches W B s T at bytes t U height behind next
-reaches_at W B s T at bytes t U high height end behind more next h e f r =
-    let a = subst (λ (n : ℕ). Reaches W B s T at bytes t U n end more) h r in
-    let b = subst (λ (n : ℕ). Reaches W B s T at bytes t U height n more) (sym e) a in
-    subst (λ (xs : List ℕ). Reaches W B s T at bytes t U height behind xs) (sym f) b
+-- what was reached, at a reader that stands there
+pub reaches_at : (W : World UnpackedIndex) (B : Surroundings UnpackedIndex) (s : State UnpackedIndex) (T : Built) (at : ℕ) (bytes : List ℕ) (t : State UnpackedIndex) (U : Built) (height end behind : ℕ) (more next : List ℕ)
+    → behind ≡ end → next ≡ more → Reaches W B s T at bytes t U height end more → Reaches W B s T at bytes t U height behind next
+reaches_at W B s T at bytes t U height end behind more next e f r =
+    let a = subst (λ (n : ℕ). Reaches W B s T at bytes t U height n more) (sym e) r in
+    subst (λ (xs : List ℕ). Reaches W B s T at bytes t U height behind xs) (sym f) a

@@ -52,16 +52,6 @@ stands_at r at (Refused f) o t e p =
     (omega (arith, here, e), omega (arith, here, e, within))
 stands_at r at OutOfMemory o t e p = tt
 
--- a height as 32 bits count it
-module _ (n c h len : ℕ) (so_far : n < 4294967295 → h ≡ n) (few : len < 2 ^ 32 → c ≡ len) (many : 2 ^ 32 ≤ len → c ≡ 2 ^ 32 - 1) (low : max n c < 4294967295) where
-  by_order : (len ≡ 4294967296) ⊎ ((len < 4294967296) ⊎ (4294967296 < len)) → max h len ≡ max n c
-  by_order (inl e) = let f = many (omega (arith, e)) in absurd (omega (arith, f, low))
-  by_order (inr (inl l)) = let f = few (omega (arith, l)) in let g = so_far (omega (arith, low)) in omega (arith, f, g)
-  by_order (inr (inr l)) = let f = many (omega (arith, l)) in absurd (omega (arith, f, low))
-
-  pub count_more : max h len ≡ max n c
-  count_more = by_order (cases_order len 4294967296)
-
 -- what was read of a body
 pub has_read :
     {A X : Type 0} (C : Context UnpackedIndex) (v d w : OperatorValidator X) (T : Built) (t : SideTable A) (r q z : BinaryReader)

@@ -158,5 +158,3 @@ module _ {A : Type 0} (C : Context UnpackedIndex) (v : OperatorValidator A) (at 
 
   pub foresees_end : (bytes xs : List ℕ) (b : ℕ) → bytes ≡ b ∷ xs → b ≡ 0x0b → Foresees C v at T bytes Closes
   foresees_end bytes xs b s e = foresees_by bytes xs b 0x0b Closes s e (foresees_none 0x0b xs Closes (omega arith) refl (at_0b xs))
-
-pub ruleset foresees = (foresees_branch, foresees_then, foresees_by, foresees_opens, foresees_loop, foresees_end)

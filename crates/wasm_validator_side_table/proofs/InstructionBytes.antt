@@ -22,7 +22,7 @@ use Rattle.wasm_spec_side_tables.specs.OnePassTables.{Built}
 use Rattle.wasm_spec_side_tables.proofs.Lists.{the_same, bind-gives}
 use Rattle.wasm_validator_side_table.specs.TableViews.{nested_in, planned_in, steps_to}
 use Rattle.wasm_validator_side_table.specs.Tables.{Advances}
-use Rattle.wasm_validator_side_table.specs.OperatorNotes.{IsQuiet, AdvancesQuietly, with_noted, nesting_of, Foresees}
+use Rattle.wasm_validator_side_table.specs.OperatorNotes.{IsQuiet, with_noted, nesting_of, Foresees}
 use Rattle.wasm_validator_side_table.specs.declared.frequent.Noted.{Noted}
 use Rattle.wasm_validator_side_table.proofs.BranchNotes.{planned_none, noted_by}
 use Rattle.wasm_validator_side_table.proofs.NextInstructions.{places_add}
@@ -82,24 +82,25 @@ module _ {A : Type 0} (C : Context UnpackedIndex) (v w : OperatorValidator A) (r
   pub noted_so : (T V : Built) (n : Noted) → SameInput r q → Foresees C v (place_of_next r) T (rest r) n → nested_in (nesting_of n) (place_of_next q) (with_noted n T) ≡ Some V → stepped C v.stacks r ≡ Some (typed_state w, rest q) → Goes T V
   noted_so T V n same f g p = noted_by_step T V n same (performs p) f g
 
-  module _ (a : BinaryReader) (b : ℕ) where
-    -- the instruction begins with this byte
-    begins : (x : Performs) → rest r ≡ b ∷ rest a → instruction_at (λ n. n) (b ∷ rest a) ≡ Some (x.op, rest q)
-    begins x e = ap (λ xs. instruction_at (λ n. n) xs) (sym e) ∙ x.read
+  -- the one instruction that is read takes the step
+  pub steps_as : stepped C v.stacks r ≡ Some (typed_state w, rest q) → (i : Instruction ℕ) (more : List ℕ) → instruction_at (λ n. n) (rest r) ≡ Some (i, more) → steps_to C v i ≡ Some (typed_state w)
+  steps_as p i more e =
+      let x = performs p in
+      let same : x.op ≡ i = ap (λ (y : Instruction ℕ × List ℕ). y.0) (the_same (x.op, rest q) (i, more) (sym x.read ∙ e)) in
+      subst (λ (j : Instruction ℕ). steps_to C v j ≡ Some (typed_state w)) same x.step
 
-    quietly_by : (x : Performs) → IsQuiet b → rest r ≡ b ∷ rest a → SameInput r q → (T : Built) → Goes T T
+  module _ (xs : List ℕ) (b : ℕ) where
+    -- the instruction begins with this byte
+    begins : (x : Performs) → rest r ≡ b ∷ xs → instruction_at (λ n. n) (b ∷ xs) ≡ Some (x.op, rest q)
+    begins x e = ap (λ ys. instruction_at (λ n. n) ys) (sym e) ∙ x.read
+
+    quietly_by : (x : Performs) → IsQuiet b → rest r ≡ b ∷ xs → SameInput r q → (T : Built) → Goes T T
     quietly_by x k e same T =
-        let both = k.at (rest a) x.op (rest q) (begins x e) in
+        let both = k.at xs x.op (rest q) (begins x e) in
         goes_by T T T same x (ap (λ (bs : List Branch). planned_in C v (place_of_next r) bs T) both.0 ∙ planned_none C v (place_of_next r) T) (ap (λ (m : Nesting). nested_in m (place_of_next q) T) both.1)
 
-    pub quietly : IsQuiet b → rest r ≡ b ∷ rest a → SameInput r q → stepped C v.stacks r ≡ Some (typed_state w, rest q) → AdvancesQuietly C v w r q
-    quietly k e same p = record { advances = quietly_by (performs p) k e same }
-
--- where the table is as it was
-pub advances_quietly : {A : Type 0} (C : Context UnpackedIndex) (v w : OperatorValidator A) (r q : BinaryReader) (T U : Built) → AdvancesQuietly C v w r q → U ≡ T
-    → Advances (world C) (within v C) (typed_state v) T (place_of_next r) (rest r) (typed_state w) U (place_of_next q) (rest q)
-advances_quietly C v w r q T U a e =
-    subst (λ (X : Built). Advances (world C) (within v C) (typed_state v) T (place_of_next r) (rest r) (typed_state w) X (place_of_next q) (rest q)) (sym e) (a.advances T)
+    pub quietly : IsQuiet b → rest r ≡ b ∷ xs → SameInput r q → stepped C v.stacks r ≡ Some (typed_state w, rest q) → (T : Built) → Goes T T
+    quietly k e same p = quietly_by (performs p) k e same
 
 -- from where nothing changed
 pub advances_from : {A : Type 0} (C D : Context UnpackedIndex) (v w : OperatorValidator A) (r q : BinaryReader) (T X : Built) (t : State UnpackedIndex) (behind : ℕ) (more : List ℕ)

@@ -6,6 +6,7 @@ pub mod FirstBytes
 pub mod ToldBytes
 pub mod LabelsKept
 pub mod InstructionBytes
+pub mod ToldNotes
 pub mod ByteSteps
 pub mod BodyLoop
 pub mod WholeTables

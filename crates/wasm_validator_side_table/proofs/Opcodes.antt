@@ -98,6 +98,14 @@ pub plainly : (b : ℕ) (bytes : List ℕ) (i : Instruction ℕ) (more : List �
 unfolding instruction_at
 plainly b bytes i more h e = by_test (nat_lt b 0xfb) (plain_from (λ n. n) b bytes) _ (Some (i, more)) (below b 0xfb h) e
 
+by_test_back : (c : Bool) (x y z : Option Read) → c ≡ true → x ≡ z → (if c then x else y) ≡ z
+by_test_back true x y z e f = f
+by_test_back false x y z e f = absurd cc
+
+pub plainly_back : (b : ℕ) (bytes : List ℕ) (i : Instruction ℕ) (more : List ℕ) → b < 0xfb → plain_from (λ n. n) b bytes ≡ Some (i, more) → instruction_at (λ n. n) (b ∷ bytes) ≡ Some (i, more)
+unfolding instruction_at
+plainly_back b bytes i more h e = by_test_back (nat_lt b 0xfb) (plain_from (λ n. n) b bytes) _ (Some (i, more)) (below b 0xfb h) e
+
 pub quiet_high : (b : ℕ) → 0x20 ≤ b → b < 0xd0 → IsQuiet b
 quiet_high b l h = record { at = λ bytes i more e. plain_high b bytes l h i more (plainly b bytes i more (omega arith) e) }
 
@@ -153,5 +161,3 @@ quiet_1a b e = quiet_by b 0x1a e (omega arith) at_1a
 
 pub quiet_1b : (b : ℕ) → b ≡ 0x1b → IsQuiet b
 quiet_1b b e = quiet_by b 0x1b e (omega arith) at_1b
-
-pub ruleset quiets = (quiet_high, quiet_00, quiet_01, quiet_0f, quiet_10, quiet_11, quiet_1a, quiet_1b)

@@ -1,18 +1,22 @@
 -- What contracts see of operators that are noted as they stand in bytes.
-use Rattle.std.specs.Prelude.{◌≡◌, ℕ, List, [], ◌∷◌, ◌++◌, Some}
+use Rattle.std.specs.Prelude.{◌≡◌, ℕ, ◌-◌, List, [], ◌∷◌, ◌++◌, length, Option, Some, slice_get}
 use Rattle.wasm_spec_rules.specs.Contexts.{Context}
-use Rattle.wasm_readers.specs.WasmReadersBytes.Reader.{place_of_next, rest}
+use Rattle.wasm_spec_rules.specs.Attempts.{◌>>=◌}
+use Rattle.wasm_readers.specs.WasmReadersBytes.Reader.{SameInput, place_of_next, rest}
 use Rattle.wasm_readers.specs.WasmReadersBytes.declared.binary_reader.BinaryReader.{BinaryReader}
 use Rattle.wasm_readers_types.specs.WasmReadersValues.declared.indices.UnpackedIndex.{UnpackedIndex}
 use Rattle.wasm_operators.specs.Instructions.{Instruction, instruction_at}
+use Rattle.wasm_spec_steps.specs.Machine.{State}
 use Rattle.wasm_validator_resources.specs.Answers.{world}
 use Rattle.wasm_typing_validator.specs.BodyTyping.{typed_state}
 use Rattle.wasm_typing_validator.specs.TypedInstructions.{within}
+use Rattle.wasm_typing_validator.specs.StepsFromBytes.{stepped}
 use Rattle.wasm_typing_validator.specs.declared.validator.OperatorValidator.{OperatorValidator}
 use Rattle.wasm_spec_side_tables.specs.declared.entry.Entry.{Entry}
+use Rattle.wasm_spec_side_tables.specs.declared.entry.OpenBlock.{OpenBlock}
 use Rattle.wasm_spec_side_tables.specs.SideTables.{branches, Nesting, opens, opens_loop, closes, stays, nesting}
 use Rattle.wasm_spec_side_tables.specs.OnePassTables.{Built}
-use Rattle.wasm_validator_side_table.specs.TableViews.{planned_in}
+use Rattle.wasm_validator_side_table.specs.TableViews.{label_in, planned_in, steps_to}
 use Rattle.wasm_validator_side_table.specs.Tables.{Advances}
 use Rattle.wasm_validator_side_table.specs.declared.frequent.Noted.{Noted}
 use Rattle.wasm_validator_side_table.specs.declared.frequent.Noted.TheVariants.{Opens, OpensLoop, OpensThen, Closes, Branches}
@@ -21,10 +25,13 @@ use Rattle.wasm_validator_side_table.specs.declared.frequent.Noted.TheVariants.{
 pub record IsQuiet (b : ℕ) : Type 0 where
   pub at : (bytes : List ℕ) (i : Instruction ℕ) (more : List ℕ) → instruction_at (λ n. n) (b ∷ bytes) ≡ Some (i, more) → (branches i ≡ []) × (nesting i ≡ stays)
 
-module _ {A : Type 0} (C : Context UnpackedIndex) (v w : OperatorValidator A) (r q : BinaryReader) where
-  -- one instruction leads on, and leaves each table as it is
-  pub record AdvancesQuietly : Type 0 where
-    pub advances : (T : Built) → Advances (world C) (within v C) (typed_state v) T (place_of_next r) (rest r) (typed_state w) T (place_of_next q) (rest q)
+module _ {A : Type 0} (C : Context UnpackedIndex) (w : OperatorValidator A) (r q : BinaryReader) (count : ℕ) (T U : Built) where
+  -- Wherever one step with so many operands before it led to where this validator is, from the one reader to the other, it leads on from the
+  -- one table to the other.
+  pub record LeadsOn : Type 0 where
+    pub advances :
+        (v : OperatorValidator A) → SameInput r q → length (typed_state v).operands ≡ count → stepped C v.stacks r ≡ Some (typed_state w, rest q)
+        → Advances (world C) (within v C) (typed_state v) T (place_of_next r) (rest r) (typed_state w) U (place_of_next q) (rest q)
 
 -- the table with an entry more
 abbrev pub with_entry : Built → Entry → Built
@@ -47,3 +54,22 @@ module _ {A : Type 0} (C : Context UnpackedIndex) (v : OperatorValidator A) (at 
   -- an instruction that these bytes begin with is noted so
   pub record Foresees (bytes : List ℕ) (n : Noted) : Type 0 where
     pub foreseen : (i : Instruction ℕ) (more : List ℕ) → instruction_at (λ m. m) bytes ≡ Some (i, more) → (planned_in C v at (branches i) T ≡ Some (with_noted n T)) × (nesting i ≡ nesting_of n)
+
+-- the entry of a branch to an open block, with what its label is given and what stands below its frame, where so many operands may be given or
+-- dropped
+abbrev pub entry_by : ℕ → ℕ → Option OpenBlock → Option (ℕ × ℕ) → Option Entry
+entry_by at n o x = do
+  b ← o
+  c ← x
+  Some (record { at = at; target = b.label; next = 0; kept = c.0; dropped = n - c.0 - c.1 })
+
+-- the entry of a branch to a label
+abbrev pub entry_to : Context UnpackedIndex → State UnpackedIndex → Built → ℕ → ℕ → ℕ → Option Entry
+entry_to C s T at l n = entry_by at n (slice_get T.nest.open_blocks l) (label_in C s l)
+
+module _ {A : Type 0} (C : Context UnpackedIndex) (w : OperatorValidator A) (count at : ℕ) (T : Built) where
+  -- wherever an instruction that these bytes begin with led to where this validator is, with so many operands before it, it is noted so
+  pub record IsNoted (bytes : List ℕ) (n : Noted) : Type 0 where
+    pub foreseen :
+        (v : OperatorValidator A) → length (typed_state v).operands ≡ count
+        → ((i : Instruction ℕ) (more : List ℕ) → instruction_at (λ m. m) bytes ≡ Some (i, more) → steps_to C v i ≡ Some (typed_state w)) → Foresees C v at T bytes n

@@ -18,8 +18,6 @@ ghost use Rattle.wasm_validator_side_table.specs.TableViews.{shown};
 ghost use Rattle.wasm_validator_side_table.specs.Tables.{Advances, Reaches, HasRead, IsTableOf, IsEmptyTable};
 
 use crate::error::{SideTableError, of_validator};
-use crate::fast::read_quiet;
-use crate::frequent::Taken;
 use crate::table::SideTable;
 use std::alloc::Allocator;
 use wasm_parser::FunctionBody;
@@ -127,34 +125,35 @@ impl<A: Allocator> SideTable<A> {
         ensures place { IfErr result (StandsIn reader.old) }
     {
         let mut ahead = *reader;
-        let mut height = 0u32;
+        let mut count = 0usize;
+        let mut height = 0usize;
         'operators: while !validator.is_finished() {
-            if read_quiet(validator, &mut ahead) {
-                height = height.max(validator.operand_stack_height());
-                continue;
+            let start = ahead;
+            match validator.told_op(&mut ahead) {
+                Ok(told) => {
+                    if !self.note_told(validator, told, start, ahead, count) {
+                        return Err(Error::OutOfMemory);
+                    }
+                    count = validator.len_operands();
+                    height = height.max(count);
+                    continue;
+                }
+                Err(_) => {}
             }
             // The reader itself is not lent, so that it can be kept in registers.
             let mut behind = ahead;
-            match self.read_frequent(validator, &mut behind) {
-                Taken::Yes => {
-                    ahead.go_on_from(&behind);
-                    height = height.max(validator.operand_stack_height());
-                    continue;
-                }
-                Taken::No => {}
-                Taken::NoMemory => return Err(Error::OutOfMemory),
-            }
             match self.read_one(validator, &mut behind) {
                 Ok(()) => {}
                 Err(error) => return Err(error),
             }
             ahead.go_on_from(&behind);
-            height = height.max(validator.operand_stack_height());
+            count = validator.len_operands();
+            height = height.max(count);
         }
-        if height >= u32::MAX {
+        if height >= 4_294_967_295 {
             return Err(Error::OutOfMemory);
         }
-        self.operands = height;
+        self.operands = height as u32;
         reader.go_on_from(&ahead);
         Ok(())
     }

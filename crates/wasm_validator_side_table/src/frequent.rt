@@ -1,33 +1,20 @@
-//! Frequent operators on blocks and labels, noted as they stand in bytes.
+//! Frequent operators on blocks and labels, noted once their steps are taken.
 
-ghost use Rattle.std.specs.Prelude.{◌≡◌, ◌<◌, ◌≤◌, ◌+◌, ◌∷◌, true, false, Some, IfSome};
-ghost use Rattle.wasm_readers.specs.WasmReadersBytes.Reader.{SameInput, position_in, place_of_next, rest};
-ghost use Rattle.wasm_validator_resources.specs.Answers.{world};
-ghost use Rattle.wasm_typing_stacks.specs.BodyStacks.{Kept};
+ghost use Rattle.std.specs.Prelude.{◌≡◌, ◌≤◌, ◌+◌, ◌-◌, ◌∷◌, true, Some, IfSome};
+ghost use Rattle.wasm_readers.specs.WasmReadersBytes.Reader.{rest};
+ghost use Rattle.wasm_typing_validator.specs.WasmTypingSteps.ToldSteps.{told_at};
 ghost use Rattle.wasm_typing_validator.specs.BodyTyping.{typed_state};
-ghost use Rattle.wasm_typing_validator.specs.TypedInstructions.{within};
-ghost use Rattle.wasm_typing_validator.specs.StepsFromBytes.{stepped};
 ghost use Rattle.wasm_validator_side_table.specs.TableViews.{shown, nested_in};
-ghost use Rattle.wasm_validator_side_table.specs.Tables.{Advances};
-ghost use Rattle.wasm_validator_side_table.specs.OperatorNotes.{Foresees, with_noted, nesting_of};
+ghost use Rattle.wasm_validator_side_table.specs.OperatorNotes.{IsNoted, LeadsOn, entry_to, with_noted, nesting_of};
 
+use crate::counts::label_counts;
 use crate::table::SideTable;
 use std::alloc::Allocator;
 use wasm_readers::BinaryReader;
-use wasm_spec_side_tables::{Entry, narrow, narrow_offset};
+use wasm_spec_side_tables::{Entry, make_entry, narrow, narrow_offset};
+use wasm_typing_validator::Told;
 use wasm_validator_func::FuncValidator;
 use wasm_validator_resources::WasmModuleResources;
-
-/// What became of the next operator.
-#[derive(Clone, Copy)]
-pub(crate) enum Taken {
-    /// It is noted, and its step is taken.
-    Yes,
-    /// It isn't, and all stays.
-    No,
-    /// Memory was refused.
-    NoMemory,
-}
 
 /// What is noted of an operator: its entry, if it branches, and what it does to the blocks.
 #[derive(Clone, Copy)]
@@ -40,37 +27,62 @@ pub(crate) enum Noted {
 }
 
 impl<A: Allocator> SideTable<A> {
-    /// What is to be noted of a branch, whose label is next.
-    #[tactic(auto, using(crate::proofs::FirstBytes::foresees))]
-    fn foresee_branch<'a, T: WasmModuleResources, B: Allocator>(
+    /// The entry of a branch to a label, where so many of the operands were taken that it isn't given.
+    fn entry_to<T: WasmModuleResources, B: Allocator>(
+        &self,
+        validator: &FuncValidator<T, B>,
+        at: u32,
+        label: u32,
+        taken: u8,
+        count: usize,
+    ) -> Option<Entry>
+        ensures { IfSome result (λ e. entry_to (T.context validator.now.resources)
+            (typed_state validator.now.validator) (shown self.now) at label (count - taken)
+            ≡ Some e) }
+    {
+        let block = self.blocks.get(label as usize)?;
+        let (kept, height) = label_counts(validator, label)?;
+        let dropped = count
+            .saturating_sub(taken as usize)
+            .saturating_sub(kept)
+            .saturating_sub(height);
+        make_entry(at, block.label, kept, dropped)
+    }
+
+    /// What is noted of a branch whose step is taken, and whose label is next.
+    #[tactic(auto, using(crate::proofs::ToldNotes::notes))]
+    fn noted_branch<'a, T: WasmModuleResources, B: Allocator>(
         &self,
         validator: &FuncValidator<T, B>,
         reader: &BinaryReader<'a>,
         at: u32,
         taken: u8,
+        count: usize,
     ) -> Option<Noted>
         requires { taken ≤ 1 }
-        ensures { IfSome result (Foresees (T.context validator.now.resources)
-            validator.now.validator at (shown self.now) ((0x0c + taken) ∷ rest reader.now)) }
+        ensures { IfSome result (IsNoted (T.context validator.now.resources)
+            validator.now.validator count at (shown self.now)
+            ((0x0c + taken) ∷ rest reader.now)) }
     {
         let mut ahead = *reader;
         let label = ahead.next_var_u32()?;
-        match self.label_entry(validator, at, label, taken) {
+        match self.entry_to(validator, at, label, taken, count) {
             Some(entry) => Some(Noted::Branches(entry)),
             None => None,
         }
     }
 
-    /// What is to be noted of an `if` without parameters, whose block type is next.
-    #[tactic(auto, using(crate::proofs::FirstBytes::foresees))]
-    fn foresee_then<'a, T: WasmModuleResources, B: Allocator>(
+    /// What is noted of an `if` without parameters, whose block type is next.
+    #[tactic(auto, using(crate::proofs::ToldNotes::notes))]
+    fn noted_then<'a, T: WasmModuleResources, B: Allocator>(
         &self,
         validator: &FuncValidator<T, B>,
         reader: &BinaryReader<'a>,
         at: u32,
+        count: usize,
     ) -> Option<Noted>
-        ensures { IfSome result (Foresees (T.context validator.now.resources)
-            validator.now.validator at (shown self.now) (0x04 ∷ rest reader.now)) }
+        ensures { IfSome result (IsNoted (T.context validator.now.resources)
+            validator.now.validator count at (shown self.now) (0x04 ∷ rest reader.now)) }
     {
         let mut ahead = *reader;
         let first = ahead.next_u8()?;
@@ -87,31 +99,33 @@ impl<A: Allocator> SideTable<A> {
         }))
     }
 
-    /// What is to be noted of the next operator, if it is a frequent one.
-    #[tactic(auto, using(crate::proofs::FirstBytes::foresees))]
-    fn foresee<'a, T: WasmModuleResources, B: Allocator>(
+    /// What is noted of an operator whose step is taken, where there were so many operands before, if
+    /// it is one that fast steps are taken of.
+    #[tactic(auto, using(crate::proofs::ToldNotes::notes))]
+    fn note_of<'a, T: WasmModuleResources, B: Allocator>(
         &self,
         validator: &FuncValidator<T, B>,
         reader: &BinaryReader<'a>,
         at: u32,
+        count: usize,
     ) -> Option<Noted>
-        ensures { IfSome result (Foresees (T.context validator.now.resources)
-            validator.now.validator at (shown self.now) (rest reader.now)) }
+        ensures { IfSome result (IsNoted (T.context validator.now.resources)
+            validator.now.validator count at (shown self.now) (rest reader.now)) }
     {
         let mut ahead = *reader;
         let opcode = ahead.next_u8()?;
         match opcode {
             0x02 => Some(Noted::Opens),
             0x03 => Some(Noted::OpensLoop),
-            0x04 => self.foresee_then(validator, &ahead, at),
+            0x04 => self.noted_then(validator, &ahead, at, count),
             0x0b => Some(Noted::Closes),
-            0x0c => self.foresee_branch(validator, &ahead, at, 0),
-            0x0d => self.foresee_branch(validator, &ahead, at, 1),
+            0x0c => self.noted_branch(validator, &ahead, at, 0, count),
+            0x0d => self.noted_branch(validator, &ahead, at, 1, count),
             _ => None,
         }
     }
 
-    /// Notes it, once the validator has taken the step that ends at this offset.
+    /// Notes it behind the step that ends at this offset.
     fn put(&mut self, noted: Noted, behind: u32) -> bool
         ensures { result ≡ true → nested_in (nesting_of noted) behind
             (with_noted noted (shown self.old)) ≡ Some (shown self.new) }
@@ -127,50 +141,53 @@ impl<A: Allocator> SideTable<A> {
         }
     }
 
-    /// Notes the next operator, and lets the validator take its step, if it is a frequent one.
+    /// Notes the operator whose step led from the one reader to the other, where there were so many
+    /// operands before. Says no where memory is refused.
     #[inline(never)]
-    pub(crate) fn read_frequent<'a, T: WasmModuleResources, B: Allocator>(
+    #[tactic(auto, using(crate::proofs::ToldNotes::leads))]
+    fn note_step<'a, T: WasmModuleResources, B: Allocator>(
         &mut self,
-        validator: &mut FuncValidator<T, B>,
-        reader: &mut BinaryReader<'a>,
-    ) -> Taken
-        requires { validator.old.validator.failed ≡ false }
-        ensures advances { result ≡ Taken.Yes → Advances
-            (world (T.context validator.old.resources))
-            (within validator.old.validator (T.context validator.old.resources))
-            (typed_state validator.old.validator) (shown self.old) (place_of_next reader.old)
-            (rest reader.old) (typed_state validator.new.validator) (shown self.new)
-            (place_of_next reader.new) (rest reader.new) }
-        ensures took { result ≡ Taken.Yes → stepped (T.context validator.old.resources)
-            validator.old.validator.stacks reader.old
-            ≡ Some (typed_state validator.new.validator, rest reader.new) }
-        ensures further { result ≡ Taken.Yes → position_in reader.old < position_in reader.new }
-        ensures table { result ≡ Taken.No → shown self.new ≡ shown self.old }
-        ensures unread { result ≡ Taken.No → reader.new ≡ reader.old }
-        ensures left { result ≡ Taken.No
-            → typed_state validator.new.validator ≡ typed_state validator.old.validator }
-        ensures going { validator.new.validator.failed ≡ false }
-        ensures kept { Kept validator.old.validator.stacks validator.new.validator.stacks }
-        ensures resources { validator.new.resources ≡ validator.old.resources }
-        ensures input { SameInput reader.old reader.new }
+        validator: &FuncValidator<T, B>,
+        start: BinaryReader<'a>,
+        ahead: BinaryReader<'a>,
+        count: usize,
+    ) -> bool
+        ensures { result ≡ true → LeadsOn (T.context validator.now.resources)
+            validator.now.validator start.entry ahead.entry count (shown self.old)
+            (shown self.new) }
     {
-        let Some(at) = narrow_offset(reader.original_position()) else {
-            return Taken::No;
+        let Some(at) = narrow_offset(start.original_position()) else {
+            return false;
         };
-        let Some(noted) = self.foresee(validator, reader, at) else {
-            return Taken::No;
+        let Some(behind) = narrow_offset(ahead.original_position()) else {
+            return false;
         };
-        match validator.fast_op(reader) {
-            Ok(()) => {}
-            Err(_) => return Taken::No,
+        match self.note_of(validator, &start, at, count) {
+            Some(noted) => self.put(noted, behind),
+            None => false,
         }
-        let Some(behind) = narrow_offset(reader.original_position()) else {
-            return Taken::NoMemory;
-        };
-        if self.put(noted, behind) {
-            Taken::Yes
-        } else {
-            Taken::NoMemory
+    }
+
+    /// Notes the operator whose step led from the one reader to the other and was told to be this,
+    /// where there were so many operands before. Says no where memory is refused.
+    #[inline(always)]
+    #[tactic(auto, using(crate::proofs::ToldNotes::leads))]
+    pub(crate) fn note_told<'a, T: WasmModuleResources, B: Allocator>(
+        &mut self,
+        validator: &FuncValidator<T, B>,
+        told: Told,
+        start: BinaryReader<'a>,
+        ahead: BinaryReader<'a>,
+        count: usize,
+    ) -> bool
+        requires { told_at (rest start) ≡ Some told }
+        ensures { result ≡ true → LeadsOn (T.context validator.now.resources)
+            validator.now.validator start.entry ahead.entry count (shown self.old)
+            (shown self.new) }
+    {
+        match told {
+            Told::Quiet => true,
+            _ => self.note_step(validator, start, ahead, count),
         }
     }
 }

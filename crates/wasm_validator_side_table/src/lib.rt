@@ -8,7 +8,6 @@ mod body;
 mod branches;
 mod counts;
 mod error;
-mod fast;
 mod frequent;
 mod handlers;
 mod notes;
