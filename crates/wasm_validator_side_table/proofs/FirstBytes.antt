@@ -7,20 +7,20 @@ use Rattle.wasm_spec.specs.Syntax.{Val}
 use Rattle.wasm_spec_rules.specs.Contexts.{Context}
 use Rattle.wasm_spec_rules.specs.Attempts.{◌>>=◌}
 use Rattle.wasm_readers_types.specs.WasmReadersValues.declared.indices.UnpackedIndex.{UnpackedIndex}
-use Rattle.wasm_operators.specs.Control.{Block, empty_block, value_block, func_block, Control, block, loop, if_, end_, br, br_if, block_from, block_at, control_from}
+use Rattle.wasm_operators.specs.Control.{Block, empty_block, value_block, func_block, Control, block, loop, if_, else_, end_, br, br_if, block_from, block_at, control_from}
 use Rattle.wasm_operators.specs.Instructions.{Instruction, plain_from, of_family, control}
 use Rattle.wasm_spec_steps.specs.Bodies.{Surroundings}
 use Rattle.wasm_validator_resources.specs.Answers.{world}
 use Rattle.wasm_typing_validator.specs.TypedInstructions.{within}
 use Rattle.wasm_typing_validator.specs.declared.validator.OperatorValidator.{OperatorValidator}
 use Rattle.wasm_spec_side_tables.specs.declared.entry.Entry.{Entry}
-use Rattle.wasm_spec_side_tables.specs.SideTables.{Branch, to_label, past_then, branches, Nesting, opens, opens_loop, closes, stays, nesting, taken_by}
+use Rattle.wasm_spec_side_tables.specs.SideTables.{Branch, to_label, past_then, branches, Nesting, opens, opens_loop, turns, closes, stays, nesting, taken_by}
 use Rattle.wasm_spec_side_tables.specs.OnePassTables.{Built}
 use Rattle.wasm_spec_side_tables.proofs.Lists.{the_same}
 use Rattle.wasm_validator_side_table.specs.TableViews.{planned_one, planned_in}
-use Rattle.wasm_validator_side_table.specs.OperatorNotes.{with_entry, with_noted, nesting_of, Foresees}
+use Rattle.wasm_validator_side_table.specs.OperatorNotes.{IsQuiet, with_entry, with_noted, nesting_of, Foresees}
 use Rattle.wasm_validator_side_table.specs.declared.frequent.Noted.{Noted}
-use Rattle.wasm_validator_side_table.specs.declared.frequent.Noted.TheVariants.{Opens, OpensLoop, OpensThen, Closes, Branches}
+use Rattle.wasm_validator_side_table.specs.declared.frequent.Noted.TheVariants.{Stays, Opens, OpensLoop, OpensThen, Turns, Closes, Branches}
 use Rattle.wasm_validator_side_table.proofs.Opcodes.{Read, Does, one, plainly, below, not_below}
 use Rattle.wasm_validator_side_table.proofs.BranchNotes.{planned_none, planned_alone}
 
@@ -38,6 +38,10 @@ module _ (bytes : List ℕ) where
   at_03 : Does [] opens_loop (plain_from (λ n. n) 0x03 bytes)
   unfolding plain_from control_from
   at_03 = opens_each loop opens_loop (λ b. (refl, refl)) (block_at (λ n. n) bytes)
+
+  at_05 : Does (to_label 0 0 ∷ []) turns (plain_from (λ n. n) 0x05 bytes)
+  unfolding plain_from control_from
+  at_05 = one (to_label 0 0 ∷ []) turns (control else_) bytes refl refl
 
   at_0b : Does [] closes (plain_from (λ n. n) 0x0b bytes)
   unfolding plain_from control_from
@@ -158,3 +162,16 @@ module _ {A : Type 0} (C : Context UnpackedIndex) (v : OperatorValidator A) (at 
 
   pub foresees_end : (bytes xs : List ℕ) (b : ℕ) → bytes ≡ b ∷ xs → b ≡ 0x0b → Foresees C v at T bytes Closes
   foresees_end bytes xs b s e = foresees_by bytes xs b 0x0b Closes s e (foresees_none 0x0b xs Closes (omega arith) refl (at_0b xs))
+
+  pub foresees_else : (bytes xs : List ℕ) (b : ℕ) (e : Entry) → bytes ≡ b ∷ xs → b ≡ 0x05 → planned_one C v at (to_label 0 0) T ≡ Some e → Foresees C v at T bytes (Turns e)
+  foresees_else bytes xs b e s f p = foresees_by bytes xs b 0x05 (Turns e) s f (foresees_one 0x05 xs (Turns e) (to_label 0 0) e (omega arith) refl p (at_05 xs))
+
+  quiet_so : (b : ℕ) (xs : List ℕ) → IsQuiet b → Foresees C v at T (b ∷ xs) Stays
+  quiet_so b xs q = record {
+    foreseen = λ i more f.
+        let both = q.at xs i more f in
+        (ap (λ (bs : List Branch). planned_in C v at bs T) both.0 ∙ planned_none C v at T, both.1);
+  }
+
+  pub foresees_quiet : (bytes xs : List ℕ) (b : ℕ) → bytes ≡ b ∷ xs → IsQuiet b → Foresees C v at T bytes Stays
+  foresees_quiet bytes xs b s q = subst (λ (ys : List ℕ). Foresees C v at T ys Stays) (sym s) (quiet_so b xs q)

@@ -161,3 +161,5 @@ quiet_1a b e = quiet_by b 0x1a e (omega arith) at_1a
 
 pub quiet_1b : (b : ℕ) → b ≡ 0x1b → IsQuiet b
 quiet_1b b e = quiet_by b 0x1b e (omega arith) at_1b
+
+pub ruleset quiets = (quiet_high, quiet_1b)

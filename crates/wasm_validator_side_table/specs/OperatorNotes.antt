@@ -14,12 +14,12 @@ use Rattle.wasm_typing_validator.specs.StepsFromBytes.{stepped}
 use Rattle.wasm_typing_validator.specs.declared.validator.OperatorValidator.{OperatorValidator}
 use Rattle.wasm_spec_side_tables.specs.declared.entry.Entry.{Entry}
 use Rattle.wasm_spec_side_tables.specs.declared.entry.OpenBlock.{OpenBlock}
-use Rattle.wasm_spec_side_tables.specs.SideTables.{branches, Nesting, opens, opens_loop, closes, stays, nesting}
+use Rattle.wasm_spec_side_tables.specs.SideTables.{branches, Nesting, opens, opens_loop, turns, closes, stays, nesting}
 use Rattle.wasm_spec_side_tables.specs.OnePassTables.{Built}
 use Rattle.wasm_validator_side_table.specs.TableViews.{label_in, planned_in, steps_to}
 use Rattle.wasm_validator_side_table.specs.Tables.{Advances}
 use Rattle.wasm_validator_side_table.specs.declared.frequent.Noted.{Noted}
-use Rattle.wasm_validator_side_table.specs.declared.frequent.Noted.TheVariants.{Opens, OpensLoop, OpensThen, Closes, Branches}
+use Rattle.wasm_validator_side_table.specs.declared.frequent.Noted.TheVariants.{Stays, Opens, OpensLoop, OpensThen, Turns, Closes, Branches}
 
 -- an instruction with this first byte branches nowhere, and leaves the blocks as they are
 pub record IsQuiet (b : ℕ) : Type 0 where
@@ -40,13 +40,16 @@ with_entry T e = record { entries = T.entries ++ e ∷ []; nest = T.nest }
 -- the table with the entry of what is noted, if it has one; and what it does to the blocks
 abbrev pub with_noted : Noted → Built → Built
 with_noted (OpensThen e) T = with_entry T e
+with_noted (Turns e) T = with_entry T e
 with_noted (Branches e) T = with_entry T e
 with_noted _ T = T
 
 abbrev pub nesting_of : Noted → Nesting
+nesting_of Stays = stays
 nesting_of Opens = opens
 nesting_of OpensLoop = opens_loop
 nesting_of (OpensThen e) = opens
+nesting_of (Turns e) = turns
 nesting_of Closes = closes
 nesting_of (Branches e) = stays
 

@@ -18,6 +18,7 @@ ghost use Rattle.wasm_validator_side_table.specs.TableViews.{shown};
 ghost use Rattle.wasm_validator_side_table.specs.Tables.{Advances, Reaches, HasRead, IsTableOf, IsEmptyTable};
 
 use crate::error::{SideTableError, of_validator};
+use crate::seldom::Taken;
 use crate::table::SideTable;
 use std::alloc::Allocator;
 use wasm_parser::FunctionBody;
@@ -102,6 +103,40 @@ impl<A: Allocator> SideTable<A> {
         }
     }
 
+    /// Notes the next operator, and lets the validator take its step, where no fast step was taken.
+    #[inline(never)]
+    fn read_left<'a, T: WasmModuleResources, B: Allocator>(
+        &mut self,
+        validator: &mut FuncValidator<T, B>,
+        reader: &mut BinaryReader<'a>,
+    ) -> Result<(), Error>
+        requires { validator.old.validator.failed ≡ false }
+        ensures advances { OnOk result (Advances (world (T.context validator.old.resources))
+            (within validator.old.validator (T.context validator.old.resources))
+            (typed_state validator.old.validator) (shown self.old) (place_of_next reader.old)
+            (rest reader.old) (typed_state validator.new.validator) (shown self.new)
+            (place_of_next reader.new) (rest reader.new)) }
+        ensures took { ReadsStep result (stepped (T.context validator.old.resources)
+            validator.old.validator.stacks reader.old) (typed_state validator.new.validator)
+            (rest reader.new) }
+        ensures going { OnOk result (validator.new.validator.failed ≡ false) }
+        ensures kept { Kept validator.old.validator.stacks validator.new.validator.stacks }
+        ensures resources { validator.new.resources ≡ validator.old.resources }
+        ensures input { SameInput reader.old reader.new }
+        ensures further { OnOk result (position_in reader.old < position_in reader.new) }
+        ensures place { IfErr result (StandsIn reader.old) }
+    {
+        match self.read_other(validator, reader) {
+            Taken::Yes => return Ok(()),
+            Taken::No => {}
+            Taken::NoMemory => return Err(Error::OutOfMemory),
+        }
+        match self.read_one(validator, reader) {
+            Ok(()) => Ok(()),
+            Err(error) => Err(error),
+        }
+    }
+
     /// Notes and validates operators up to the end of the body.
     fn read_all<'a, T: WasmModuleResources, B: Allocator>(
         &mut self,
@@ -142,7 +177,7 @@ impl<A: Allocator> SideTable<A> {
             }
             // The reader itself is not lent, so that it can be kept in registers.
             let mut behind = ahead;
-            match self.read_one(validator, &mut behind) {
+            match self.read_left(validator, &mut behind) {
                 Ok(()) => {}
                 Err(error) => return Err(error),
             }

@@ -19,9 +19,11 @@ use wasm_validator_resources::WasmModuleResources;
 /// What is noted of an operator: its entry, if it branches, and what it does to the blocks.
 #[derive(Clone, Copy)]
 pub(crate) enum Noted {
+    Stays,
     Opens,
     OpensLoop,
     OpensThen(Entry),
+    Turns(Entry),
     Closes,
     Branches(Entry),
 }
@@ -126,16 +128,18 @@ impl<A: Allocator> SideTable<A> {
     }
 
     /// Notes it behind the step that ends at this offset.
-    fn put(&mut self, noted: Noted, behind: u32) -> bool
+    pub(crate) fn put(&mut self, noted: Noted, behind: u32) -> bool
         ensures { result ≡ true → nested_in (nesting_of noted) behind
             (with_noted noted (shown self.old)) ≡ Some (shown self.new) }
     {
         match noted {
+            Noted::Stays => true,
             Noted::Opens => self.open_block(false, behind).is_ok(),
             Noted::OpensLoop => self.open_block(true, behind).is_ok(),
             Noted::OpensThen(entry) => {
                 self.add(entry).is_ok() && self.open_block(false, behind).is_ok()
             }
+            Noted::Turns(entry) => self.add(entry).is_ok() && self.turn_block(behind).is_ok(),
             Noted::Closes => self.close_block(behind).is_ok(),
             Noted::Branches(entry) => self.add(entry).is_ok(),
         }

@@ -11,6 +11,7 @@ mod error;
 mod frequent;
 mod handlers;
 mod notes;
+mod seldom;
 mod table;
 
 pub use body::validate_with_side_table;

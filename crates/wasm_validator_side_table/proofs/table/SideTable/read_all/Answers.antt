@@ -80,13 +80,13 @@ operators-preserved g c =
     let v = c.args.validator.now.validator in
     let w = c.operators.validator.validator in
     let x = c.told_op.new.self.validator in
-    let u = c.read_one.new.validator.validator in
+    let u = c.read_left.new.validator.validator in
     let old = c.operators.ahead in
     let middle = c.told_op.new.reader in
-    let next = c.read_one.new.reader in
+    let next = c.read_left.new.reader in
     let new = c.go_on_from.new.self in
     let T = shown c.operators.self in
-    let U = shown c.read_one.new.self in
+    let U = shown c.read_left.new.self in
     let all = instructions_from (world C) (within v C) (typed_state v) (rest c.args.reader.now) in
     let far = c.operators.invariant.so_far in
     let going : is_finished (typed_state w) ≡ false = cc in
@@ -103,12 +103,12 @@ operators-preserved g c =
     let went : position_in middle < position_in next = search rules in
     let further : position_in old < position_in new = omega (arith, went, position, ap position_in unread) in
     let before = c.operators.invariant.onward in
-    let there_first : Advances (world D) (within x D) (typed_state x) T (place_of_next middle) (rest middle) (typed_state u) U (place_of_next next) (rest next) = c.in-Ok-read_one.ensures.advances in
+    let there_first : Advances (world D) (within x D) (typed_state x) T (place_of_next middle) (rest middle) (typed_state u) U (place_of_next next) (rest next) = c.in-Ok-read_left.ensures.advances in
     let from_old : Advances (world C) (within w C) (typed_state w) T (place_of_next old) (rest old) (typed_state u) U (place_of_next next) (rest next) =
     advances_from C D w x old middle T U (typed_state u) (place_of_next next) (rest next) there kept left unread there_first in
     let advances : Advances (world C) (within w C) (typed_state w) T (place_of_next old) (rest old) (typed_state u) U (place_of_next new) (rest new) =
     advances_on C w u T U (place_of_next old) (rest old) next new (place_stays middle next new first second position) more from_old in
-    let took : stepped D x.stacks middle ≡ Some (typed_state u, rest next) = c.in-Ok-read_one.ensures.took in
+    let took : stepped D x.stacks middle ≡ Some (typed_state u, rest next) = c.in-Ok-read_left.ensures.took in
     let step : stepped C w.stacks old ≡ Some (typed_state u, rest new) = sym (stepped_same C D w x old middle there kept left unread) ∙ took ∙ ap (λ xs. Some (typed_state u, xs)) (sym more) in
     let counted : c.len_operands-count-in-operators.result ≡ length (typed_state u).operands = search rules in
     let high : c.max-height-in-operators.result ≡ max c.operators.height c.len_operands-count-in-operators.result = search rules in
@@ -123,18 +123,18 @@ operators-preserved g c =
       so_far = far_more C v w old c.operators.invariant.kept far.0 all going far.2 u new far.1 inside further step;
     }
 
-pub returns-in-Err-read_one-clause-took : goal.returns-in-Err-read_one-clause-took
-returns-in-Err-read_one-clause-took g c =
+pub returns-in-Err-read_left-clause-took : goal.returns-in-Err-read_left-clause-took
+returns-in-Err-read_left-clause-took g c =
     let C = g.T.WasmModuleResources.context c.args.validator.now.resources in
     let D = g.T.WasmModuleResources.context c.told_op.new.self.resources in
     let v = c.args.validator.now.validator in
     let w = c.operators.validator.validator in
     let x = c.told_op.new.self.validator in
-    let u = c.read_one.new.validator.validator in
+    let u = c.read_left.new.validator.validator in
     let old = c.operators.ahead in
     let middle = c.told_op.new.reader in
-    let next = c.read_one.new.reader in
-    let e = c.in-Err-read_one.error in
+    let next = c.read_left.new.reader in
+    let e = c.in-Err-read_left.error in
     let all = instructions_from (world C) (within v C) (typed_state v) (rest c.args.reader.now) in
     let far = c.operators.invariant.so_far in
     let going : is_finished (typed_state w) ≡ false = cc in
@@ -144,5 +144,5 @@ returns-in-Err-read_one-clause-took g c =
     let left : typed_state x ≡ typed_state w = search (rules, tests) in
     let unread : middle ≡ old = search (rules, tests) in
     let step : ReadsStep (Err e) (stepped C w.stacks old) (typed_state u) (rest next) =
-    subst (λ o. ReadsStep (Err e) o (typed_state u) (rest next)) (stepped_same C D w x old middle there kept left unread) c.in-Err-read_one.ensures.took in
+    subst (λ o. ReadsStep (Err e) o (typed_state u) (rest next)) (stepped_same C D w x old middle there kept left unread) c.in-Err-read_left.ensures.took in
     far_stopped C v w old c.operators.invariant.kept far.0 all going far.2 e (typed_state u) (typed_state u) (rest next) (rest c.args.reader.now) step
