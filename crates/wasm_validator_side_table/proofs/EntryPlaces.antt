@@ -1,6 +1,6 @@
 -- Entries that get their places one after another.
 use Rattle.std.proofs.Common.{◌≡◌, refl, sym, ap, ◌∙◌, ℕ, ◌+◌, ◌<◌, ◌≤◌, List, [], ◌∷◌, ◌++◌, length, take, drop, set, get_or, Option, Some, None, arith, length-set}
-use Rattle.std.proofs.lemmas.List.{take_more, take_more_set, drop-set-lt, drop_more, take_all, take-append-drop}
+use Rattle.std.proofs.lemmas.List.{get_or_default, take_more, take_more_set, drop-set-lt, drop_more, take_all, take-append-drop}
 use Rattle.wasm_spec_rules.specs.Attempts.{◌>>=◌}
 use Rattle.wasm_spec_side_tables.specs.declared.entry.Entry.{Entry}
 use Rattle.wasm_spec_side_tables.specs.declared.entry.Place.{Place}
@@ -44,9 +44,16 @@ resolves_all ps i old new r h =
     let count = r.count in
     ap (resolved_each ps) (sym (take_all i old (omega arith))) ∙ r.front ∙ ap (λ (zs : List Entry). Some zs) (take_all i new h)
 
--- the same, of the places as they are now
-pub resolves_next : (ps qs : List Place) (i : ℕ) (old new : List Entry) (e x : Entry) → Resolves ps i old new → qs ≡ ps → i < length new → e ≡ get_or new i e → Some x ≡ resolved qs e → Resolves ps (i + 1) old (set new i x)
-resolves_next ps qs i old new e x r same h g p = resolves_more ps i old new e x r h g (ap (λ (zs : List Place). resolved zs e) (sym same) ∙ sym p)
+-- the same, of the places and the entries as they are seen
+seen_at : (new seen : List Entry) (i : ℕ) (d e : Entry) → i < length new → seen ≡ new → get_or seen i d ≡ get_or new i e
+seen_at new seen i d e h k = ap (λ (zs : List Entry). get_or zs i d) k ∙ get_or_default new i d e h
+
+pub resolves_next :
+    (ps qs vs : List Place) (i : ℕ) (old new seen written : List Entry) (d x : Entry)
+    → Resolves ps i old new → qs ≡ ps → vs ≡ qs → i < length new → seen ≡ new → Some x ≡ resolved vs (get_or seen i d) → written ≡ set new i x → Resolves ps (i + 1) old written
+resolves_next ps qs vs i old new seen written d x r same now h k p w =
+    let e : Entry = get_or seen i d in
+    rw w (resolves_more ps i old new e x r h (seen_at new seen i d e h k) (ap (λ (zs : List Place). resolved zs e) (sym (now ∙ same)) ∙ sym p))
 
 -- an entry that names no place
 abbrev in_front : List Place → List Entry → Option Entry → Option (List Entry)
@@ -60,13 +67,16 @@ none_within : (ps : List Place) (xs : List Entry) (e : Entry) (ys : List Entry) 
 none_within ps [] e ys h = ap (λ (o : Option Entry). in_front ps ys o) h
 none_within ps (x ∷ xs) e ys h = none_behind ps (xs ++ e ∷ ys) (resolved ps x) (none_within ps xs e ys h)
 
-pub resolves_not : (ps qs : List Place) (i : ℕ) (old new : List Entry) (e : Entry) → Resolves ps i old new → qs ≡ ps → i < length new → e ≡ get_or new i e → None ≡ resolved qs e → resolved_each ps old ≡ None
-resolves_not ps qs i old new e r same h g p =
+pub resolves_not :
+    (ps qs vs : List Place) (i : ℕ) (old new seen : List Entry) (d : Entry)
+    → Resolves ps i old new → qs ≡ ps → vs ≡ qs → i < length new → seen ≡ new → None ≡ resolved vs (get_or seen i d) → resolved_each ps old ≡ None
+resolves_not ps qs vs i old new seen d r same now h k p =
     let count = r.count in
+    let e : Entry = get_or seen i d in
     let there : get_or new i e ∷ drop (i + 1) new ≡ get_or old i e ∷ drop (i + 1) old = sym (drop_more new i e h) ∙ r.rest ∙ drop_more old i e (omega arith) in
-    let here : e ≡ get_or old i e = g ∙ cons-head _ _ _ _ there in
+    let here : e ≡ get_or old i e = seen_at new seen i d e h k ∙ cons-head _ _ _ _ there in
     let split : old ≡ take i old ++ e ∷ drop (i + 1) old =
     sym (take-append-drop i old) ∙ ap (λ (zs : List Entry). take i old ++ zs) (drop_more old i e (omega arith)) ∙ ap (λ (y : Entry). take i old ++ y ∷ drop (i + 1) old) (sym here) in
-    ap (resolved_each ps) split ∙ none_within ps (take i old) e (drop (i + 1) old) (sym (p ∙ ap (λ (zs : List Place). resolved zs e) same))
+    ap (resolved_each ps) split ∙ none_within ps (take i old) e (drop (i + 1) old) (sym (p ∙ ap (λ (zs : List Place). resolved zs e) (now ∙ same)))
 
 pub ruleset resolving = (resolves_none, resolves_next, resolves_all)

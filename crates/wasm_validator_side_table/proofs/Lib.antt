@@ -1,6 +1,7 @@
 pub mod BranchNotes
 pub mod Opcodes
 pub mod EntryPlaces
+pub mod CountedLists
 pub mod NextInstructions
 pub mod FirstBytes
 pub mod ToldBytes

@@ -31,7 +31,7 @@ use Rattle.wasm_validator_side_table.specs.declared.table.SideTable.{SideTable}
 
 pub table_is :
     {A X : Type 0} (C : Context UnpackedIndex) (n : ℕ) (v w : OperatorValidator X) (T : Built) (t last : SideTable A) (r : BinaryReader)
-    → BeginsBody v C n → T ≡ begun → HasRead C v w T t r → resolved_each t.places.items t.entries.items ≡ Some last.entries.items → t.blocks ≡ [] → last.operands ≡ t.operands → last.locals ≡ length (locals_in w)
+    → BeginsBody v C n → T ≡ begun → HasRead C v w T t r → resolved_each t.places t.entries ≡ Some last.entries → t.blocks ≡ [] → last.operands ≡ t.operands → last.locals ≡ length (locals_in w)
     → last.first ≡ t.first → last.end ≡ t.end → IsTableOf (features_of v.stacks.features) C n (place_of_next r) (rest r) last
 table_is C n v w T t last r begins fresh read resolved closed operands locals first end =
     let W = world C in
@@ -40,7 +40,7 @@ table_is C n v w T t last r begins fresh read resolved closed operands locals fi
     let is = read.reaches.instructions in
     let at_start : typed_state d ≡ start (func_block n) = read.state ∙ begins.state in
     let all : built W B (typed_state d) begun is ≡ Some (typed_state w, shown t) = subst (λ (U : Built). built W B (typed_state d) U is ≡ Some (typed_state w, shown t)) fresh read.reaches.built in
-    let right : side_table W B (typed_state d) is ≡ Some last.entries.items = sym (tables_are_right UnpackedIndex W B (typed_state d) (typed_state w) is (shown t) all closed) ∙ resolved in
+    let right : side_table W B (typed_state d) is ≡ Some last.entries = sym (tables_are_right UnpackedIndex W B (typed_state d) (typed_state w) is (shown t) all closed) ∙ resolved in
     let height : greatest_height W B 0 (typed_state d) is ≡ Some last.operands = read.reaches.highest ∙ ap (λ (h : ℕ). Some h) (sym operands) in
     record {
       surroundings = B;
@@ -54,7 +54,7 @@ table_is C n v w T t last r begins fresh read resolved closed operands locals fi
       locals = ap (λ (o : Option (List (Local UnpackedIndex))). o >>= λ ls. locals_from (features_of v.stacks.features) C.types ls (rest r)) (sym begins.locals) ∙ read.listed;
       begin = read.begin;
       are = read.reaches.are;
-      entries = subst (λ (s : State UnpackedIndex). side_table W B s is ≡ Some last.entries.items) at_start right;
+      entries = subst (λ (s : State UnpackedIndex). side_table W B s is ≡ Some last.entries) at_start right;
       operands = subst (λ (s : State UnpackedIndex). greatest_height W B 0 s is ≡ Some last.operands) at_start height;
       count = locals ∙ ap (λ (ls : List (Local UnpackedIndex)). length ls) read.kept.content;
       begins = first ∙ read.begins;

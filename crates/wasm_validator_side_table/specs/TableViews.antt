@@ -23,7 +23,7 @@ use Rattle.wasm_spec_side_tables.specs.OnePassTables.{Built, nested, planned, pl
 use Rattle.wasm_validator_side_table.specs.declared.table.SideTable.{SideTable}
 
 abbrev pub shown : {A : Type 0} → SideTable A → Built
-shown t = record { entries = t.entries.items; nest = record { places = t.places.items; open_blocks = t.blocks } }
+shown t = record { entries = t.entries; nest = record { places = t.places; open_blocks = t.blocks } }
 
 -- an operator as the rules have it
 abbrev pub instruction_of : Operator → Instruction ℕ

@@ -82,7 +82,7 @@ pub record IsTableOf {A : Type 0} (F : Features) (C : Context UnpackedIndex) (n 
   pub locals : (option_map (λ g. map parameter g.takes) (function_in C n) >>= λ ls. locals_from F C.types ls bytes) ≡ Some (surroundings.locals, behind)
   pub begin : first + length behind ≡ at + length bytes
   pub are : AreAt instructions first behind end []
-  pub entries : side_table (world C) surroundings (start (func_block n)) instructions ≡ Some t.entries.items
+  pub entries : side_table (world C) surroundings (start (func_block n)) instructions ≡ Some t.entries
   pub operands : greatest_height (world C) surroundings 0 (start (func_block n)) instructions ≡ Some t.operands
   pub count : t.locals ≡ length surroundings.locals
   pub begins : t.first ≡ first
@@ -90,7 +90,7 @@ pub record IsTableOf {A : Type 0} (F : Features) (C : Context UnpackedIndex) (n 
 
 -- nothing stands in it
 pub record IsEmptyTable {A : Type 0} (t : SideTable A) : Type 0 where
-  pub entries : t.entries.items ≡ []
+  pub entries : t.entries ≡ []
   pub operands : t.operands ≡ 0
   pub locals : t.locals ≡ 0
   pub first : t.first ≡ 0

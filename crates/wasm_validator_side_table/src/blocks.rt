@@ -6,10 +6,11 @@ ghost use Rattle.wasm_validator_side_table.specs.TableViews.{shown, place_in, ne
 
 use crate::table::SideTable;
 use std::alloc::{AllocError, Allocator};
-use wasm_spec_side_tables::{OpenBlock, Place, fill, narrow};
+use wasm_spec_side_tables::{OpenBlock, Place, narrow};
 
 impl<A: Allocator> SideTable<A> {
     /// The place behind an instruction.
+    #[inline(always)]
     fn place_behind(&self, behind: u32) -> Option<Place>
         ensures { IfSome result (λ p. p ≡ place_in behind (shown self.now)) }
     {
@@ -21,6 +22,7 @@ impl<A: Allocator> SideTable<A> {
     }
 
     /// A block opens behind this offset.
+    #[inline(never)]
     pub(crate) fn open_block(&mut self, is_loop: bool, behind: u32) -> Result<(), AllocError>
         ensures nested { OnOk result (nested_in (if is_loop then opens_loop else opens) behind (shown self.old)
             ≡ Some (shown self.new)) }
@@ -40,8 +42,9 @@ impl<A: Allocator> SideTable<A> {
             other,
             is_loop,
         };
-        if self.places.push(place).is_err() || self.places.push(place).is_err() {
-            return Err(AllocError);
+        match self.places.push_twice(place) {
+            Ok(()) => {}
+            Err(error) => return Err(error),
         }
         match self.blocks.push(block) {
             Ok(()) => Ok(()),
@@ -63,7 +66,7 @@ impl<A: Allocator> SideTable<A> {
         if block.is_loop {
             return Err(AllocError);
         }
-        fill(&mut self.places, block.other, place);
+        self.places.set(block.other as usize, place);
         let turned = OpenBlock {
             label: block.label,
             other: block.label,
@@ -76,6 +79,7 @@ impl<A: Allocator> SideTable<A> {
     }
 
     /// A block closes behind this offset.
+    #[inline(never)]
     pub(crate) fn close_block(&mut self, behind: u32) -> Result<(), AllocError>
         ensures nested { OnOk result (nested_in closes behind (shown self.old) ≡ Some (shown self.new)) }
         ensures operands { OnOk result (self.new.operands ≡ self.old.operands) }
@@ -87,8 +91,8 @@ impl<A: Allocator> SideTable<A> {
             return Err(AllocError);
         };
         if !block.is_loop {
-            fill(&mut self.places, block.label, place);
-            fill(&mut self.places, block.other, place);
+            self.places.set(block.label as usize, place);
+            self.places.set(block.other as usize, place);
         }
         Ok(())
     }

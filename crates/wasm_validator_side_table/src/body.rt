@@ -39,11 +39,11 @@ impl<A: Allocator> SideTable<A> {
     /// Puts the places into the entries, where all blocks are closed, and says whether that was done.
     #[tactic(auto, using(crate::proofs::EntryPlaces::resolving))]
     pub fn finish(&mut self) -> bool
-        ensures resolved { result ≡ true → resolved_each self.old.places.items
-            self.old.entries.items ≡ Some self.new.entries.items }
+        ensures resolved { result ≡ true → resolved_each self.old.places self.old.entries
+            ≡ Some self.new.entries }
         ensures closed { result ≡ true → self.old.blocks ≡ [] }
         ensures not_done { result ≡ false → self.old.blocks ≡ []
-            → resolved_each self.old.places.items self.old.entries.items ≡ None }
+            → resolved_each self.old.places self.old.entries ≡ None }
         ensures counts { (self.new.operands ≡ self.old.operands)
             × (self.new.locals ≡ self.old.locals) }
         ensures places { (self.new.first ≡ self.old.first) × (self.new.end ≡ self.old.end) }
@@ -53,8 +53,9 @@ impl<A: Allocator> SideTable<A> {
         }
         let mut i = 0usize;
         'entries: while i < self.entries.len() {
-            match resolve(self.places.as_slice(), self.entries[i]) {
-                Some(entry) => self.entries[i] = entry,
+            let entry = self.entries.as_slice()[i];
+            match resolve(self.places.as_slice(), entry) {
+                Some(resolved) => self.entries.set(i, resolved),
                 None => return false,
             }
             i += 1;

@@ -6,6 +6,7 @@
 mod blocks;
 mod body;
 mod branches;
+mod counted;
 mod counts;
 mod error;
 mod frequent;

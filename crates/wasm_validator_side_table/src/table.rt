@@ -5,6 +5,7 @@ ghost use Rattle.wasm_validator_side_table.specs.TableViews.{shown};
 ghost use Rattle.wasm_validator_side_table.specs.Tables.{IsEmptyTable};
 ghost use Rattle.wasm_spec_side_tables.specs.OnePassTables.{begun};
 
+use crate::counted::Counted;
 use std::alloc::{AllocError, Allocator, Global};
 use wasm_readers_errors::Error;
 use wasm_spec_side_tables::{Entry, OpenBlock, Place};
@@ -12,8 +13,8 @@ use wasm_typing_stacks::Stack;
 
 /// A side table, and the memory in which the next one is made.
 pub struct SideTable<A: Allocator = Global> {
-    pub(crate) entries: Vec<Entry, A>,
-    pub(crate) places: Vec<Place, A>,
+    pub(crate) entries: Counted<Entry, A>,
+    pub(crate) places: Counted<Place, A>,
     pub(crate) blocks: Stack<OpenBlock, A>,
     pub(crate) operands: u32,
     pub(crate) locals: u32,
@@ -40,8 +41,8 @@ impl<A: Allocator + Copy> SideTable<A> {
     /// No memory yet.
     pub fn new(alloc: A) -> SideTable<A> {
         SideTable {
-            entries: Vec::new(alloc),
-            places: Vec::new(alloc),
+            entries: Counted::new(alloc),
+            places: Counted::new(alloc),
             blocks: Stack::new(alloc),
             operands: 0,
             locals: 0,
@@ -54,7 +55,7 @@ impl<A: Allocator + Copy> SideTable<A> {
 impl<A: Allocator> SideTable<A> {
     /// The entries, in the order of the branches.
     pub fn entries(&self) -> &[Entry]
-        ensures { result.now ≡ self.now.entries.items }
+        ensures { result.now ≡ self.now.entries }
     {
         self.entries.as_slice()
     }
@@ -125,6 +126,7 @@ impl<A: Allocator> SideTable<A> {
     }
 
     /// One entry more.
+    #[inline(always)]
     pub(crate) fn add(&mut self, entry: Entry) -> Result<(), AllocError>
         ensures added { OnOk result (shown self.new ≡ record {
           entries = (shown self.old).entries

@@ -150,7 +150,7 @@ module _ (A : Type 0) (bytes : List ℕ) (features : WasmFeatures) where
             (record { body = seen; offset = found_at f; is = is; valid = made.is.valid; few = made.is.few; table = made.is.table });
         valid = All-push IsBodyOfIts b.bodies seen b.valid made.is.valid;
         tables = made.adds.tables ∙ ((λ i. b.tables i ++ told_of (length (b.entries i)) f.function.index made.table ∷ []) ∙ (ap (λ n. told_behind 0 b.all ++ told_of n f.function.index made.table ∷ []) begin ∙ sym (told_more 0 b.all one)));
-        entries = made.adds.entries ∙ ap (λ (es : List Entry). es ++ made.table.entries.items) b.entries ∙ sym (entries_more b.all one);
+        entries = made.adds.entries ∙ ap (λ (es : List Entry). es ++ made.table.entries) b.entries ∙ sym (entries_more b.all one);
       }
 
   by_payload : (now now' : Standing) (s s' : State) (p : Piece) (end : ℕ) (m m' : Making A) (valid : ValidPayload A) → IsSoFar now s m → next_of s ≡ Some (Some (p, s')) → end ≤ length bytes

@@ -35,7 +35,7 @@ module _ {A : Type 0} where
   function_in t = t.function
 
   abbrev pub entries_in : Tabled A → List Entry
-  entries_in t = t.table.entries.items
+  entries_in t = t.table.entries
 
   -- what is told of a table whose entries stand behind so many others
   abbrev pub told_of : ℕ → ℕ → SideTable A → BodyTable
@@ -89,7 +89,7 @@ module _ {A : Type 0} where
   -- one table more is told
   pub record Adds (function : ℕ) (t : SideTable A) (tables_old : List BodyTable) (entries_old : List Entry) (tables_new : List BodyTable) (entries_new : List Entry) : Type 0 where
     pub tables : tables_new ≡ tables_old ++ told_of (length entries_old) function t ∷ []
-    pub entries : entries_new ≡ entries_old ++ t.entries.items
+    pub entries : entries_new ≡ entries_old ++ t.entries
 
   -- it is that of this body
   pub record Makes (body : BodyToValidate) (offset : ℕ) (old new : Making A) : Type 0 where

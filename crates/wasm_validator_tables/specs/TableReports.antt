@@ -15,14 +15,14 @@ pub record AreWritten {X : Type 0} (given old new : List X) : Type 0 where
 
 -- how many entries there are, from where to where the instructions stand, and how many operands and locals there are at most
 abbrev pub counts_in : {A : Type 0} → SideTable A → TableCounts
-counts_in t = record { entries = length t.entries.items; first = t.first; end = t.end; operands = t.operands; locals = t.locals }
+counts_in t = record { entries = length t.entries; first = t.first; end = t.end; operands = t.operands; locals = t.locals }
 
 -- The table of a function's body is told.
 pub record IsTold (bytes : List ℕ) (features : WasmFeatures) (function : ℕ) (c : TableCounts) (old new : List Entry) : Type 0 where
   pub table : SideTable Global
   pub is : IsTableIn bytes features function table
   pub counts : c ≡ counts_in table
-  pub entries : AreWritten table.entries.items old new
+  pub entries : AreWritten table.entries old new
 
 -- nothing was written
 pub record Stays (c0 c1 : TableCounts) (old new : List Entry) : Type 0 where

@@ -1,36 +1,30 @@
-use Rattle.std.proofs.Common.{◌≡◌, ◌<◌, ◌∙◌, ap, List, get_or, length, Some, None, rules}
-use Rattle.wasm_spec_side_tables.specs.declared.entry.Place.{Place}
-use Rattle.wasm_spec_side_tables.specs.OnePassTables.{resolved}
+use Rattle.std.proofs.Common.{◌<◌, length, rules}
 use Rattle.wasm_validator_side_table.proofs.EntryPlaces.{resolves_next, resolves_not}
 use Rattle.wasm_validator_side_table.proofs.table.SideTable.finish.Goals as goal
 
 pub entries-preserved : goal.entries-preserved
 entries-preserved g c =
-    let ps = c.args.self.now.places.items in
-    let qs = c.entries.self.places.items in
-    let old = c.args.self.now.entries.items in
-    let new = c.entries.self.entries.items in
-    let e = c.index.result.now in
-    let here : c.entries.i < length new = search rules in
-    let read : e ≡ get_or new c.entries.i e = search rules in
-    let put : Some c.in-Some.entry ≡ resolved qs e = c.in-Some.ensures ∙ ap (λ (zs : List Place). resolved zs e) c.as_slice.ensures.value in
+    let now = c.entries.self in
+    let seen = c.as_slice.result.now in
+    let places = c.as_slice-in-entries.result.now in
+    let known = c.entries.invariant in
+    let here : c.entries.i < length now.entries = search rules in
     record {
-      resolves = resolves_next ps qs c.entries.i old new e c.in-Some.entry c.entries.invariant.resolves c.entries.invariant.places here read put;
-      places = c.entries.invariant.places;
-      operands = c.entries.invariant.operands;
-      locals = c.entries.invariant.locals;
-      first = c.entries.invariant.first;
-      end = c.entries.invariant.end;
-      closed = c.entries.invariant.closed;
+      resolves =
+          resolves_next c.args.self.now.places now.places places c.entries.i c.args.self.now.entries now.entries seen c.set.new.self _ c.in-Some.resolved
+          known.resolves known.places c.as_slice-in-entries.ensures here c.as_slice.ensures c.in-Some.ensures c.set.ensures;
+      places = known.places;
+      operands = known.operands;
+      locals = known.locals;
+      first = known.first;
+      end = known.end;
+      closed = known.closed;
     }
 
 pub returns-in-None-clause-not_done : goal.returns-in-None-clause-not_done
 returns-in-None-clause-not_done g c = λ h k.
-    let ps = c.args.self.now.places.items in
-    let qs = c.entries.self.places.items in
-    let new = c.entries.self.entries.items in
-    let e = c.index.result.now in
-    let here : c.entries.i < length new = search rules in
-    let read : e ≡ get_or new c.entries.i e = search rules in
-    let none : None ≡ resolved qs e = c.in-None.ensures ∙ ap (λ (zs : List Place). resolved zs e) c.as_slice.ensures.value in
-    resolves_not ps qs c.entries.i c.args.self.now.entries.items new e c.entries.invariant.resolves c.entries.invariant.places here read none
+    let now = c.entries.self in
+    let known = c.entries.invariant in
+    let here : c.entries.i < length now.entries = search rules in
+    resolves_not c.args.self.now.places now.places c.as_slice-in-entries.result.now c.entries.i c.args.self.now.entries now.entries c.as_slice.result.now _
+    known.resolves known.places c.as_slice-in-entries.ensures here c.as_slice.ensures c.in-None.ensures

@@ -4,8 +4,8 @@ use Rattle.wasm_validator_side_table.proofs.table.SideTable.finish.Given as goal
 
 abbrev pub invariant-entries : goal.invariant-entries
 invariant-entries g l = record {
-  resolves : Resolves l.initial.self.places.items l.i l.initial.self.entries.items l.self.entries.items;
-  places : l.self.places.items ≡ l.initial.self.places.items;
+  resolves : Resolves l.initial.self.places l.i l.initial.self.entries l.self.entries;
+  places : l.self.places ≡ l.initial.self.places;
   operands : l.self.operands ≡ l.initial.self.operands;
   locals : l.self.locals ≡ l.initial.self.locals;
   first : l.self.first ≡ l.initial.self.first;
@@ -14,4 +14,4 @@ invariant-entries g l = record {
 }
 
 abbrev pub decreases-entries : goal.decreases-entries
-decreases-entries g l = length l.self.entries.items - l.i
+decreases-entries g l = length l.self.entries - l.i

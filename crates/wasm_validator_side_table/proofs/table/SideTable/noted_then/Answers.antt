@@ -10,7 +10,7 @@ returns g c =
     let x = c.in_ok-first.first in
     let low : 0x40 ≤ x = search (rules, tests) in
     let high : x < 0x80 = search (rules, tests) in
-    let number : c.in_ok-number.number ≡ length c.args.self.now.places.items + 1 = search rules in
+    let number : c.in_ok-number.number ≡ length c.args.self.now.places + 1 = search rules in
     let entry : ℕ → Entry = λ n. record { at = c.args.at; target = n; next = 0; kept = 0; dropped = 0 } in
     noted_then (g.T.WasmModuleResources.context c.args.validator.now.resources) c.args.validator.now.validator c.args.count c.args.at (shown c.args.self.now) (rest c.args.reader.now) (rest c.next_u8.new.self) x
     (entry c.in_ok-number.number) c.in_ok-first.ensures.some low high (ap entry number)
