@@ -5,11 +5,11 @@ ghost use Rattle.wasm_typing_validator.specs.BodyTyping.{typed_state};
 ghost use Rattle.wasm_validator_side_table.specs.TableViews.{label_in};
 
 use std::alloc::Allocator;
-use wasm_operators::FrameKind;
-use wasm_validator_func::{FuncValidator, block_arity};
+use wasm_validator_func::FuncValidator;
 use wasm_validator_resources::WasmModuleResources;
 
 /// How many operands a branch to this label gives it, and how many stand below its frame.
+#[inline(always)]
 pub(crate) fn label_counts<T: WasmModuleResources, A: Allocator>(
     validator: &FuncValidator<T, A>,
     depth: u32,
@@ -17,20 +17,5 @@ pub(crate) fn label_counts<T: WasmModuleResources, A: Allocator>(
     ensures { result ≡ label_in (T.context validator.now.resources)
         (typed_state validator.now.validator) depth }
 {
-    match validator.get_control_frame(depth as usize) {
-        Some(frame) => match block_arity(validator.resources(), frame.block_type) {
-            Some((takes, gives)) => match frame.kind {
-                FrameKind::Loop => Some((takes, frame.height)),
-                FrameKind::Block
-                | FrameKind::If
-                | FrameKind::Else
-                | FrameKind::TryTable
-                | FrameKind::LegacyTry
-                | FrameKind::LegacyCatch
-                | FrameKind::LegacyCatchAll => Some((gives, frame.height)),
-            },
-            None => None,
-        },
-        None => None,
-    }
+    validator.label_counts(depth)
 }
