@@ -1,6 +1,5 @@
 -- Steps from bytes, and the greatest height.
-use Rattle.std.proofs.Common.{◌≡◌, ◌≤◌, ◌<◌, ◌^◌, ◌-◌, ◌⊎◌, inl, inr, ap, subst, ◌∙◌, ℕ, ◌+◌, max, arith, List, [], length, Option, Some, None, Err}
-use Rattle.std.proofs.lemmas.Bool.{cases_order}
+use Rattle.std.proofs.Common.{◌≡◌, ◌≤◌, ap, subst, ◌∙◌, ℕ, ◌+◌, arith, List, [], length, Option, Some, None, Err}
 use Rattle.wasm_spec_rules.specs.Contexts.{Context}
 use Rattle.wasm_spec_rules.specs.Attempts.{◌>>=◌}
 use Rattle.wasm_readers.specs.WrittenIndices.{written}

@@ -4,12 +4,12 @@ use Rattle.wasm_spec.specs.Values.{u32_at}
 use Rattle.wasm_spec_rules.specs.Contexts.{Context}
 use Rattle.wasm_spec_rules.specs.Attempts.{◌>>=◌}
 use Rattle.wasm_spec_rules.specs.Signatures.{Signature}
-use Rattle.wasm_readers.specs.WasmReadersBytes.Reader.{SameInput, place_of_next, rest}
+use Rattle.wasm_readers.specs.WasmReadersBytes.Reader.{place_of_next, rest}
 use Rattle.wasm_readers.specs.WasmReadersBytes.declared.binary_reader.BinaryReader.{BinaryReader}
 use Rattle.wasm_readers_types.specs.WasmReadersValues.declared.indices.UnpackedIndex.{UnpackedIndex}
 use Rattle.wasm_operators.specs.Control.{Block, empty_block, value_block, func_block, br, br_if, control_from}
-use Rattle.wasm_operators.specs.Instructions.{Instruction, instruction_at, plain_from, of_family, control}
-use Rattle.wasm_spec_steps.specs.Machine.{State, Frame, Kind}
+use Rattle.wasm_operators.specs.Instructions.{plain_from, of_family, control}
+use Rattle.wasm_spec_steps.specs.Machine.{Frame, Kind}
 use Rattle.wasm_spec_steps.specs.Meanings.{block_signature, label_by}
 use Rattle.wasm_validator_resources.specs.Answers.{world}
 use Rattle.wasm_typing_validator.specs.WasmTypingControl.Blocks.{function_in, signature_in}
@@ -24,11 +24,11 @@ use Rattle.wasm_spec_side_tables.specs.declared.entry.OpenBlock.{OpenBlock}
 use Rattle.wasm_spec_side_tables.specs.SideTables.{to_label, label_counts}
 use Rattle.wasm_spec_side_tables.specs.OnePassTables.{Built}
 use Rattle.wasm_validator_side_table.specs.TableViews.{label_in, nested_in, planned_one, steps_to}
-use Rattle.wasm_validator_side_table.specs.OperatorNotes.{IsQuiet, LeadsOn, with_noted, nesting_of, Foresees, IsNoted, entry_by, entry_to}
+use Rattle.wasm_validator_side_table.specs.OperatorNotes.{IsQuiet, LeadsOn, with_noted, nesting_of, IsNoted, entry_by, entry_to}
 use Rattle.wasm_validator_side_table.specs.declared.frequent.Noted.{Noted}
 use Rattle.wasm_validator_side_table.specs.declared.frequent.Noted.TheVariants.{Opens, OpensLoop, OpensThen, Closes, Branches}
 use Rattle.wasm_validator_side_table.proofs.Opcodes.{plainly_back}
-use Rattle.wasm_validator_side_table.proofs.FirstBytes.{foresees_branch, foresees_then, foresees_by, foresees_opens, foresees_loop, foresees_end}
+use Rattle.wasm_validator_side_table.proofs.FirstBytes.{foresees_branch, foresees_then, foresees_opens, foresees_loop, foresees_end}
 use Rattle.wasm_validator_side_table.proofs.LabelsKept.{branch-labels, branch_if-labels}
 use Rattle.wasm_validator_side_table.proofs.ToldBytes.{Said, told_said}
 use Rattle.wasm_validator_side_table.proofs.InstructionBytes.{noted_so, steps_as, quietly}
