@@ -9,7 +9,7 @@ use Rattle.wasm_readers.specs.WasmReadersBytes.declared.binary_reader.BinaryRead
 use Rattle.wasm_readers_types.specs.WasmReadersValues.declared.indices.UnpackedIndex.{UnpackedIndex}
 use Rattle.wasm_operators.specs.Control.{Block, empty_block, value_block, func_block, br, br_if, control_from}
 use Rattle.wasm_operators.specs.Instructions.{plain_from, of_family, control}
-use Rattle.wasm_spec_steps.specs.Machine.{Frame, Kind}
+use Rattle.wasm_spec_steps.specs.Machine.{Frame, Kind, State}
 use Rattle.wasm_spec_steps.specs.Meanings.{block_signature, label_by}
 use Rattle.wasm_validator_resources.specs.Answers.{world}
 use Rattle.wasm_typing_validator.specs.WasmTypingControl.Blocks.{function_in, signature_in}
@@ -21,10 +21,10 @@ use Rattle.wasm_typing_validator.specs.TypedInstructions.{within}
 use Rattle.wasm_typing_validator.specs.declared.validator.OperatorValidator.{OperatorValidator}
 use Rattle.wasm_spec_side_tables.specs.declared.entry.Entry.{Entry}
 use Rattle.wasm_spec_side_tables.specs.declared.entry.OpenBlock.{OpenBlock}
-use Rattle.wasm_spec_side_tables.specs.SideTables.{to_label, label_counts}
+use Rattle.wasm_spec_side_tables.specs.SideTables.{to_label, label_counts, opens, opens_loop, closes}
 use Rattle.wasm_spec_side_tables.specs.OnePassTables.{Built}
 use Rattle.wasm_validator_side_table.specs.TableViews.{label_in, nested_in, planned_one, steps_to}
-use Rattle.wasm_validator_side_table.specs.OperatorNotes.{IsQuiet, LeadsOn, with_noted, nesting_of, IsNoted, entry_by, entry_to}
+use Rattle.wasm_validator_side_table.specs.OperatorNotes.{IsQuiet, IsBranchedTo, LeadsOn, branch_told, entry_past, with_entry, with_noted, nesting_of, IsNoted, entry_by, entry_to}
 use Rattle.wasm_validator_side_table.specs.declared.frequent.Noted.{Noted}
 use Rattle.wasm_validator_side_table.specs.declared.frequent.Noted.TheVariants.{Opens, OpensLoop, OpensThen, Closes, Branches}
 use Rattle.wasm_validator_side_table.proofs.Opcodes.{plainly_back}
@@ -139,6 +139,48 @@ module _ {A : Type 0} (C : Context UnpackedIndex) (w : OperatorValidator A) (r q
         advances = λ v same many step. quietly C v w r q f.1 f.0 quiet f.2 same step T;
       }
 
-pub ruleset notes = (noted_branch, noted_then, noted_by, noted_opens, noted_loop, noted_end)
+  -- by what is told
+  pub leads_opens : (T U : Built) → told_at (rest r) ≡ Some told.Opens → nested_in opens (place_of_next q) T ≡ Some U → LeadsOn C w r q count T U
+  leads_opens T U e n =
+      let f = front (rest r) told.Opens e in
+      let code : f.0 ≡ 0x02 = told_first (rest r) f.1 f.0 told.Opens e f.2 in
+      leads_so T U Opens (noted_opens C w count (place_of_next r) T (rest r) f.1 f.0 f.2 code) n
 
-pub ruleset leads = (leads_so, leads_quietly)
+  pub leads_loop : (T U : Built) → told_at (rest r) ≡ Some told.OpensLoop → nested_in opens_loop (place_of_next q) T ≡ Some U → LeadsOn C w r q count T U
+  leads_loop T U e n =
+      let f = front (rest r) told.OpensLoop e in
+      let code : f.0 ≡ 0x03 = told_first (rest r) f.1 f.0 told.OpensLoop e f.2 in
+      leads_so T U OpensLoop (noted_loop C w count (place_of_next r) T (rest r) f.1 f.0 f.2 code) n
+
+  pub leads_end : (T U : Built) → told_at (rest r) ≡ Some told.Closes → nested_in closes (place_of_next q) T ≡ Some U → LeadsOn C w r q count T U
+  leads_end T U e n =
+      let f = front (rest r) told.Closes e in
+      let code : f.0 ≡ 0x0b = told_first (rest r) f.1 f.0 told.Closes e f.2 in
+      leads_so T U Closes (noted_end C w count (place_of_next r) T (rest r) f.1 f.0 f.2 code) n
+
+  pub leads_then :
+      (T U : Built) (b x : ℕ) (xs zs : List ℕ) → told_at (rest r) ≡ Some told.OpensThen → rest r ≡ b ∷ xs → xs ≡ x ∷ zs → 0x40 ≤ x → x < 0x80
+      → nested_in opens (place_of_next q) (with_entry T (entry_past (place_of_next r) T)) ≡ Some U → LeadsOn C w r q count T U
+  leads_then T U b x xs zs e s t l h n =
+      let code : b ≡ 0x04 = told_first (rest r) xs b told.OpensThen e s in
+      let entry : Entry = entry_past (place_of_next r) T in
+      leads_so T U (OpensThen entry) (noted_by C w count (place_of_next r) T (rest r) xs b 0x04 (OpensThen entry) s code (noted_then C w count (place_of_next r) T xs zs x entry t l h refl)) n
+
+  pub leads_branch :
+      (T U : Built) (taken b l : ℕ) (xs more : List ℕ) → taken ≤ 1 → told_at (rest r) ≡ Some (branch_told taken) → rest r ≡ b ∷ xs → u32_at xs ≡ Some (l, more)
+      → IsBranchedTo C (typed_state w) (place_of_next r) l (count - taken) T U → LeadsOn C w r q count T U
+  leads_branch T U zero b l xs more few e s h x =
+      let code : b ≡ 0x0c = told_first (rest r) xs b told.Branches e s in
+      leads_so T U (Branches x.0) (noted_by C w count (place_of_next r) T (rest r) xs b 0x0c (Branches x.0) s code (noted_branch C w count (place_of_next r) T 0 l xs more x.0 few h x.1)) (ap (λ (V : Built). Some V) (sym x.2))
+  leads_branch T U (suc zero) b l xs more few e s h x =
+      let code : b ≡ 0x0d = told_first (rest r) xs b told.BranchesPerhaps e s in
+      leads_so T U (Branches x.0) (noted_by C w count (place_of_next r) T (rest r) xs b 0x0d (Branches x.0) s code (noted_branch C w count (place_of_next r) T 1 l xs more x.0 few h x.1)) (ap (λ (V : Built). Some V) (sym x.2))
+  leads_branch T U (suc (suc n)) b l xs more few e s h x = absurd (omega (arith, few))
+
+-- an entry that is added
+pub branched : (C : Context UnpackedIndex) (s : State UnpackedIndex) (at n l k : ℕ) (T U : Built) (e : Entry) → n ≡ at → entry_to C s T n l k ≡ Some e → U ≡ with_entry T e → IsBranchedTo C s at l k T U
+branched C s at n l k T U e d f g = (e, ap (λ (m : ℕ). entry_to C s T m l k) (sym d) ∙ f, g)
+
+pub ruleset adds = (branched)
+
+pub ruleset leads = (leads_quietly, leads_opens, leads_loop, leads_end, leads_then, leads_branch)

@@ -1,5 +1,5 @@
 -- What contracts see of operators that are noted as they stand in bytes.
-use Rattle.std.specs.Prelude.{◌≡◌, ℕ, ◌-◌, List, [], ◌∷◌, ◌++◌, length, Option, Some, slice_get}
+use Rattle.std.specs.Prelude.{◌≡◌, ℕ, zero, suc, ◌+◌, ◌-◌, List, [], ◌∷◌, ◌++◌, length, Option, Some, slice_get}
 use Rattle.wasm_spec_rules.specs.Contexts.{Context}
 use Rattle.wasm_spec_rules.specs.Attempts.{◌>>=◌}
 use Rattle.wasm_readers.specs.WasmReadersBytes.Reader.{SameInput, place_of_next, rest}
@@ -11,6 +11,8 @@ use Rattle.wasm_validator_resources.specs.Answers.{world}
 use Rattle.wasm_typing_validator.specs.BodyTyping.{typed_state}
 use Rattle.wasm_typing_validator.specs.TypedInstructions.{within}
 use Rattle.wasm_typing_validator.specs.StepsFromBytes.{stepped}
+use Rattle.wasm_typing_validator.specs.WasmTypingSteps.declared.told.Told.{Told}
+use Rattle.wasm_typing_validator.specs.WasmTypingSteps.declared.told.Told.TheVariants as told
 use Rattle.wasm_typing_validator.specs.declared.validator.OperatorValidator.{OperatorValidator}
 use Rattle.wasm_spec_side_tables.specs.declared.entry.Entry.{Entry}
 use Rattle.wasm_spec_side_tables.specs.declared.entry.OpenBlock.{OpenBlock}
@@ -69,6 +71,20 @@ entry_by at n o x = do
 -- the entry of a branch to a label
 abbrev pub entry_to : Context UnpackedIndex → State UnpackedIndex → Built → ℕ → ℕ → ℕ → Option Entry
 entry_to C s T at l n = entry_by at n (slice_get T.nest.open_blocks l) (label_in C s l)
+
+-- the entry of an `if` whose block takes nothing
+abbrev pub entry_past : ℕ → Built → Entry
+entry_past at T = record { at = at; target = length T.nest.places + 1; next = 0; kept = 0; dropped = 0 }
+
+module _ (C : Context UnpackedIndex) (s : State UnpackedIndex) (at l n : ℕ) (T U : Built) where
+  -- the entry of a branch to a label is added
+  abbrev pub IsBranchedTo : Type 0
+  IsBranchedTo = (e : Entry) × (entry_to C s T at l n ≡ Some e) × (U ≡ with_entry T e)
+
+-- what a branch is told to be that takes so many operands before those of its label
+abbrev pub branch_told : ℕ → Told
+branch_told zero = told.Branches
+branch_told (suc n) = told.BranchesPerhaps
 
 module _ {A : Type 0} (C : Context UnpackedIndex) (w : OperatorValidator A) (count at : ℕ) (T : Built) where
   -- wherever an instruction that these bytes begin with led to where this validator is, with so many operands before it, it is noted so

@@ -22,7 +22,7 @@ impl<A: Allocator> SideTable<A> {
     }
 
     /// A block opens behind this offset.
-    #[inline(never)]
+    #[inline(always)]
     pub(crate) fn open_block(&mut self, is_loop: bool, behind: u32) -> Result<(), AllocError>
         ensures nested { OnOk result (nested_in (if is_loop then opens_loop else opens) behind (shown self.old)
             ≡ Some (shown self.new)) }
@@ -79,7 +79,7 @@ impl<A: Allocator> SideTable<A> {
     }
 
     /// A block closes behind this offset.
-    #[inline(never)]
+    #[inline(always)]
     pub(crate) fn close_block(&mut self, behind: u32) -> Result<(), AllocError>
         ensures nested { OnOk result (nested_in closes behind (shown self.old) ≡ Some (shown self.new)) }
         ensures operands { OnOk result (self.new.operands ≡ self.old.operands) }

@@ -34,6 +34,7 @@ pub(crate) fn count_operands<T: WasmModuleResources, B: Allocator>(
 
 impl<A: Allocator> SideTable<A> {
     /// The entry of a branch to a label, once so many operands were taken that it isn't given.
+    #[inline(always)]
     pub(crate) fn label_entry<T: WasmModuleResources, B: Allocator>(
         &self,
         validator: &FuncValidator<T, B>,
@@ -46,8 +47,8 @@ impl<A: Allocator> SideTable<A> {
     {
         let block = self.blocks.get(label as usize)?;
         let (kept, height) = label_counts(validator, label)?;
-        let operands = count_operands(validator)? as usize;
-        let dropped = operands
+        let dropped = validator
+            .len_operands()
             .saturating_sub(taken as usize)
             .saturating_sub(kept)
             .saturating_sub(height);

@@ -1,11 +1,12 @@
 //! Frequent operators on blocks and labels, noted once their steps are taken.
 
-ghost use Rattle.std.specs.Prelude.{◌≡◌, ◌≤◌, ◌+◌, ◌-◌, ◌∷◌, true, Some, IfSome};
+ghost use Rattle.std.specs.Prelude.{◌≡◌, ◌≤◌, ◌-◌, if◌then◌else◌, true, Some, IfSome};
 ghost use Rattle.wasm_readers.specs.WasmReadersBytes.Reader.{rest};
 ghost use Rattle.wasm_typing_validator.specs.WasmTypingSteps.ToldSteps.{told_at};
 ghost use Rattle.wasm_typing_validator.specs.BodyTyping.{typed_state};
+ghost use Rattle.wasm_spec_side_tables.specs.SideTables.{opens, opens_loop, closes};
 ghost use Rattle.wasm_validator_side_table.specs.TableViews.{shown, nested_in};
-ghost use Rattle.wasm_validator_side_table.specs.OperatorNotes.{IsNoted, LeadsOn, entry_to, with_noted, nesting_of};
+ghost use Rattle.wasm_validator_side_table.specs.OperatorNotes.{IsBranchedTo, LeadsOn, branch_told, entry_past, entry_to, with_entry, with_noted, nesting_of};
 
 use crate::counts::label_counts;
 use crate::table::SideTable;
@@ -30,6 +31,7 @@ pub(crate) enum Noted {
 
 impl<A: Allocator> SideTable<A> {
     /// The entry of a branch to a label, where so many of the operands were taken that it isn't given.
+    #[inline(always)]
     fn entry_to<T: WasmModuleResources, B: Allocator>(
         &self,
         validator: &FuncValidator<T, B>,
@@ -51,80 +53,156 @@ impl<A: Allocator> SideTable<A> {
         make_entry(at, block.label, kept, dropped)
     }
 
-    /// What is noted of a branch whose step is taken, and whose label is next.
-    #[tactic(auto, using(crate::proofs::ToldNotes::notes))]
-    fn noted_branch<'a, T: WasmModuleResources, B: Allocator>(
-        &self,
+    /// Adds the entry of a branch to a label. Says no where memory is refused.
+    #[inline(never)]
+    #[tactic(auto, using(crate::proofs::ToldNotes::adds))]
+    fn add_to<T: WasmModuleResources, B: Allocator>(
+        &mut self,
         validator: &FuncValidator<T, B>,
-        reader: &BinaryReader<'a>,
-        at: u32,
+        at: u64,
+        label: u32,
         taken: u8,
         count: usize,
-    ) -> Option<Noted>
-        requires { taken ≤ 1 }
-        ensures { IfSome result (IsNoted (T.context validator.now.resources)
-            validator.now.validator count at (shown self.now)
-            ((0x0c + taken) ∷ rest reader.now)) }
+    ) -> bool
+        ensures { result ≡ true → IsBranchedTo (T.context validator.now.resources)
+            (typed_state validator.now.validator) at label (count - taken) (shown self.old)
+            (shown self.new) }
     {
-        let mut ahead = *reader;
-        let label = ahead.next_var_u32()?;
-        match self.entry_to(validator, at, label, taken, count) {
-            Some(entry) => Some(Noted::Branches(entry)),
-            None => None,
+        let Some(at) = narrow_offset(at) else {
+            return false;
+        };
+        let Some(entry) = self.entry_to(validator, at, label, taken, count) else {
+            return false;
+        };
+        match self.add(entry) {
+            Ok(()) => true,
+            Err(_) => false,
         }
     }
 
-    /// What is noted of an `if` without parameters, whose block type is next.
-    #[tactic(auto, using(crate::proofs::ToldNotes::notes))]
-    fn noted_then<'a, T: WasmModuleResources, B: Allocator>(
-        &self,
+    /// Notes a branch whose step led from the one reader to the other.
+    #[inline(always)]
+    #[tactic(auto, using(crate::proofs::ToldNotes::leads))]
+    fn note_branch<'a, T: WasmModuleResources, B: Allocator>(
+        &mut self,
         validator: &FuncValidator<T, B>,
-        reader: &BinaryReader<'a>,
-        at: u32,
+        start: BinaryReader<'a>,
+        ahead: BinaryReader<'a>,
+        taken: u8,
         count: usize,
-    ) -> Option<Noted>
-        ensures { IfSome result (IsNoted (T.context validator.now.resources)
-            validator.now.validator count at (shown self.now) (0x04 ∷ rest reader.now)) }
+    ) -> bool
+        requires few { taken ≤ 1 }
+        requires told { told_at (rest start) ≡ Some (branch_told taken) }
+        ensures { result ≡ true → LeadsOn (T.context validator.now.resources)
+            validator.now.validator start.entry ahead.entry count (shown self.old)
+            (shown self.new) }
     {
-        let mut ahead = *reader;
-        let first = ahead.next_u8()?;
-        if first < 0x40 || 0x80 <= first {
-            return None;
+        let mut front = start;
+        let Some(_opcode) = front.next_u8() else {
+            return false;
+        };
+        let Some(label) = front.next_var_u32() else {
+            return false;
+        };
+        self.add_to(validator, start.original_position(), label, taken, count)
+    }
+
+    /// A block opens behind this offset. Says no where memory is refused.
+    #[inline(never)]
+    fn open_behind(&mut self, is_loop: bool, behind: u64) -> bool
+        ensures { result ≡ true → nested_in (if is_loop then opens_loop else opens) behind
+            (shown self.old) ≡ Some (shown self.new) }
+    {
+        let Some(behind) = narrow_offset(behind) else {
+            return false;
+        };
+        match self.open_block(is_loop, behind) {
+            Ok(()) => true,
+            Err(_) => false,
         }
-        let number = narrow(self.places.len())?.checked_add(1)?;
-        Some(Noted::OpensThen(Entry {
+    }
+
+    /// A block closes behind this offset. Says no where memory is refused.
+    #[inline(never)]
+    fn close_behind(&mut self, behind: u64) -> bool
+        ensures { result ≡ true → nested_in closes behind (shown self.old)
+            ≡ Some (shown self.new) }
+    {
+        let Some(behind) = narrow_offset(behind) else {
+            return false;
+        };
+        match self.close_block(behind) {
+            Ok(()) => true,
+            Err(_) => false,
+        }
+    }
+
+    /// An `if` without parameters at the one offset opens its block behind the other. Says no where
+    /// memory is refused.
+    #[inline(never)]
+    fn open_then(&mut self, at: u64, behind: u64) -> bool
+        ensures { result ≡ true → nested_in opens behind
+            (with_entry (shown self.old) (entry_past at (shown self.old)))
+            ≡ Some (shown self.new) }
+    {
+        let Some(at) = narrow_offset(at) else {
+            return false;
+        };
+        let Some(behind) = narrow_offset(behind) else {
+            return false;
+        };
+        let Some(number) = narrow(self.places.len()) else {
+            return false;
+        };
+        let Some(number) = number.checked_add(1) else {
+            return false;
+        };
+        let entry = Entry {
             at,
             target: number,
             next: 0,
             kept: 0,
             dropped: 0,
-        }))
+        };
+        match self.add(entry) {
+            Ok(()) => {}
+            Err(_) => return false,
+        }
+        match self.open_block(false, behind) {
+            Ok(()) => true,
+            Err(_) => false,
+        }
     }
 
-    /// What is noted of an operator whose step is taken, where there were so many operands before, if
-    /// it is one that fast steps are taken of.
-    #[tactic(auto, using(crate::proofs::ToldNotes::notes))]
-    fn note_of<'a, T: WasmModuleResources, B: Allocator>(
-        &self,
+    /// Notes an `if` without parameters whose step led from the one reader to the other.
+    #[inline(always)]
+    #[tactic(auto, using(crate::proofs::ToldNotes::leads))]
+    fn note_then<'a, T: WasmModuleResources, B: Allocator>(
+        &mut self,
         validator: &FuncValidator<T, B>,
-        reader: &BinaryReader<'a>,
-        at: u32,
+        start: BinaryReader<'a>,
+        ahead: BinaryReader<'a>,
         count: usize,
-    ) -> Option<Noted>
-        ensures { IfSome result (IsNoted (T.context validator.now.resources)
-            validator.now.validator count at (shown self.now) (rest reader.now)) }
+    ) -> bool
+        requires { told_at (rest start) ≡ Some Told.OpensThen }
+        ensures { result ≡ true → LeadsOn (T.context validator.now.resources)
+            validator.now.validator start.entry ahead.entry count (shown self.old)
+            (shown self.new) }
     {
-        let mut ahead = *reader;
-        let opcode = ahead.next_u8()?;
-        match opcode {
-            0x02 => Some(Noted::Opens),
-            0x03 => Some(Noted::OpensLoop),
-            0x04 => self.noted_then(validator, &ahead, at, count),
-            0x0b => Some(Noted::Closes),
-            0x0c => self.noted_branch(validator, &ahead, at, 0, count),
-            0x0d => self.noted_branch(validator, &ahead, at, 1, count),
-            _ => None,
+        let mut front = start;
+        let Some(_opcode) = front.next_u8() else {
+            return false;
+        };
+        let Some(first) = front.next_u8() else {
+            return false;
+        };
+        if first < 0x40 {
+            return false;
         }
+        if 0x80 <= first {
+            return false;
+        }
+        self.open_then(start.original_position(), ahead.original_position())
     }
 
     /// Notes it behind the step that ends at this offset.
@@ -142,33 +220,6 @@ impl<A: Allocator> SideTable<A> {
             Noted::Turns(entry) => self.add(entry).is_ok() && self.turn_block(behind).is_ok(),
             Noted::Closes => self.close_block(behind).is_ok(),
             Noted::Branches(entry) => self.add(entry).is_ok(),
-        }
-    }
-
-    /// Notes the operator whose step led from the one reader to the other, where there were so many
-    /// operands before. Says no where memory is refused.
-    #[inline(never)]
-    #[tactic(auto, using(crate::proofs::ToldNotes::leads))]
-    fn note_step<'a, T: WasmModuleResources, B: Allocator>(
-        &mut self,
-        validator: &FuncValidator<T, B>,
-        start: BinaryReader<'a>,
-        ahead: BinaryReader<'a>,
-        count: usize,
-    ) -> bool
-        ensures { result ≡ true → LeadsOn (T.context validator.now.resources)
-            validator.now.validator start.entry ahead.entry count (shown self.old)
-            (shown self.new) }
-    {
-        let Some(at) = narrow_offset(start.original_position()) else {
-            return false;
-        };
-        let Some(behind) = narrow_offset(ahead.original_position()) else {
-            return false;
-        };
-        match self.note_of(validator, &start, at, count) {
-            Some(noted) => self.put(noted, behind),
-            None => false,
         }
     }
 
@@ -191,7 +242,12 @@ impl<A: Allocator> SideTable<A> {
     {
         match told {
             Told::Quiet => true,
-            _ => self.note_step(validator, start, ahead, count),
+            Told::Opens => self.open_behind(false, ahead.original_position()),
+            Told::OpensLoop => self.open_behind(true, ahead.original_position()),
+            Told::OpensThen => self.note_then(validator, start, ahead, count),
+            Told::Closes => self.close_behind(ahead.original_position()),
+            Told::Branches => self.note_branch(validator, start, ahead, 0, count),
+            Told::BranchesPerhaps => self.note_branch(validator, start, ahead, 1, count),
         }
     }
 }
