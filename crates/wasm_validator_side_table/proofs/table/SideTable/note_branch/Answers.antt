@@ -1,4 +1,4 @@
-use Rattle.std.proofs.Common.{◌≡◌, ◌-◌, ℕ, subst}
+use Rattle.std.proofs.Common.{◌-◌, ℕ, subst}
 use Rattle.wasm_readers.specs.WasmReadersBytes.Reader.{place_of_next, rest}
 use Rattle.wasm_typing_validator.specs.BodyTyping.{typed_state}
 use Rattle.wasm_validator_side_table.specs.TableViews.{shown}
