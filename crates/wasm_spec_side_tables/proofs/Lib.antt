@@ -1,3 +1,4 @@
+pub mod CountedLists
 pub mod Lists
 pub mod ClosedBlocks
 pub mod LabelLinks

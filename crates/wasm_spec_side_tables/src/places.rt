@@ -1,11 +1,10 @@
 //! Entries and places, as a table is made of them.
 
-ghost use Rattle.std.specs.Prelude.{◌≡◌, IfSome, slice_set};
+ghost use Rattle.std.specs.Prelude.{◌≡◌, IfSome};
 ghost use Rattle.wasm_spec_side_tables.specs.SideTables.{catch_label};
 ghost use Rattle.wasm_spec_side_tables.specs.OnePassTables.{resolved};
 
 use crate::entry::{Entry, Place};
-use std::alloc::Allocator;
 use wasm_operators::Catch;
 
 /// A number, if it has 32 bits.
@@ -75,13 +74,4 @@ pub fn resolve(places: &[Place], entry: Entry) -> Option<Entry>
         kept: entry.kept,
         dropped: entry.dropped,
     })
-}
-
-/// Fills in the place of a number, if there is such a place.
-pub fn fill<A: Allocator>(places: &mut Vec<Place, A>, number: u32, place: Place)
-    ensures { places.new.items ≡ slice_set places.old.items number place }
-{
-    if (number as usize) < places.len() {
-        places[number as usize] = place;
-    }
 }

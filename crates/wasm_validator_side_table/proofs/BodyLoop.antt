@@ -7,22 +7,22 @@ use Rattle.wasm_readers.specs.WasmReadersBytes.declared.binary_reader.BinaryRead
 use Rattle.wasm_readers_errors.specs.declared.error.Error.{Error}
 use Rattle.wasm_readers_types.specs.WasmReadersValues.declared.indices.UnpackedIndex.{UnpackedIndex}
 use Rattle.wasm_operators.proofs.ExpressionEnds.{shorter}
-use Rattle.wasm_spec_steps.specs.Bodies.{Surroundings}
-use Rattle.wasm_spec_steps.specs.Machine.{State}
-use Rattle.wasm_spec_steps.specs.Steps.{is_finished}
+use Rattle.wasm_validator_side_notes.specs.WasmTypingValidator.WasmSpecSteps.Bodies.{Surroundings}
+use Rattle.wasm_validator_side_notes.specs.WasmTypingValidator.WasmSpecSteps.Machine.{State}
+use Rattle.wasm_validator_side_notes.specs.WasmTypingValidator.WasmSpecSteps.Steps.{is_finished}
 use Rattle.wasm_validator_resources.specs.Answers.{world}
-use Rattle.wasm_typing_stacks.specs.BodyStacks.{Kept}
-use Rattle.wasm_typing_validator.specs.WasmTypingSteps.InstructionSteps.{step_at}
-use Rattle.wasm_typing_validator.specs.BodyTyping.{typed_state}
-use Rattle.wasm_typing_validator.specs.TypedInstructions.{within, ReadsTo}
-use Rattle.wasm_typing_validator.specs.StepsFromBytes.{ReadsStep, stepped}
-use Rattle.wasm_typing_validator.specs.declared.validator.OperatorValidator.{OperatorValidator}
-use Rattle.wasm_typing_validator.proofs.CodeSurroundings.{kept_around}
-use Rattle.wasm_validator_func.specs.Bodies.{typed_from}
-use Rattle.wasm_validator_func.proofs.ByteSteps.{one_more, stopped_here}
-use Rattle.wasm_spec_side_tables.specs.OnePassTables.{Built}
-use Rattle.wasm_validator_side_table.specs.Tables.{Advances, Reaches}
-use Rattle.wasm_validator_side_table.proofs.NextInstructions.{reaches_more}
+use Rattle.wasm_validator_side_notes.specs.WasmTypingValidator.WasmTypingStacks.BodyStacks.{Kept}
+use Rattle.wasm_validator_side_notes.specs.WasmTypingValidator.WasmTypingSteps.InstructionSteps.{step_at}
+use Rattle.wasm_validator_side_notes.specs.WasmTypingValidator.BodyTyping.{typed_state}
+use Rattle.wasm_validator_side_notes.specs.WasmTypingValidator.TypedInstructions.{within, ReadsTo}
+use Rattle.wasm_validator_side_notes.specs.WasmTypingValidator.StepsFromBytes.{ReadsStep, stepped}
+use Rattle.wasm_validator_side_notes.specs.WasmTypingValidator.declared.validator.OperatorValidator.{OperatorValidator}
+use Rattle.wasm_validator_side_notes.proofs.WasmTypingValidator.CodeSurroundings.{kept_around}
+use Rattle.wasm_validator_side_notes.specs.WasmValidatorFunc.Bodies.{typed_from}
+use Rattle.wasm_validator_side_notes.proofs.WasmValidatorFunc.ByteSteps.{one_more, stopped_here}
+use Rattle.wasm_validator_side_notes.specs.WasmSpecSideTables.OnePassTables.{Built}
+use Rattle.wasm_validator_side_notes.specs.Tables.{Advances, Reaches}
+use Rattle.wasm_validator_side_notes.proofs.NextInstructions.{reaches_more}
 
 module _ {A : Type 0} (C : Context UnpackedIndex) (v w : OperatorValidator A) (old : BinaryReader) (kept : Kept v.stacks w.stacks) where
   -- the table

@@ -11,20 +11,20 @@ use Rattle.wasm_readers_errors.specs.declared.error.Refusal.{Refusal}
 use Rattle.wasm_readers_types.specs.WasmReadersValues.declared.indices.UnpackedIndex.{UnpackedIndex}
 use Rattle.wasm_operators.specs.Instructions.{Instruction, instruction_at}
 use Rattle.wasm_operators.specs.Maps.{map_instruction}
-use Rattle.wasm_spec_steps.specs.Machine.{State}
+use Rattle.wasm_validator_side_notes.specs.WasmTypingValidator.WasmSpecSteps.Machine.{State}
 use Rattle.wasm_validator_resources.specs.Answers.{world, written_index}
-use Rattle.wasm_typing_stacks.specs.BodyStacks.{Kept}
-use Rattle.wasm_typing_validator.specs.WasmTypingSteps.InstructionSteps.{step_read, step_at}
-use Rattle.wasm_typing_validator.specs.BodyTyping.{typed_state, locals_in}
-use Rattle.wasm_typing_validator.specs.TypedInstructions.{within, TookAt, StandsIn}
-use Rattle.wasm_typing_validator.specs.StepsFromBytes.{ReadsStep, stepped}
-use Rattle.wasm_typing_validator.specs.declared.validator.OperatorValidator.{OperatorValidator}
-use Rattle.wasm_validator_func.specs.BodyValidation.{listed_in, Goes}
-use Rattle.wasm_spec_side_tables.specs.OnePassTables.{Built}
-use Rattle.wasm_validator_side_table.specs.TableViews.{shown, steps_to}
-use Rattle.wasm_validator_side_table.specs.Tables.{Reaches, HasRead}
-use Rattle.wasm_validator_side_table.specs.declared.table.SideTable.{SideTable}
-use Rattle.wasm_validator_side_table.proofs.NextInstructions.{places_add}
+use Rattle.wasm_validator_side_notes.specs.WasmTypingValidator.WasmTypingStacks.BodyStacks.{Kept}
+use Rattle.wasm_validator_side_notes.specs.WasmTypingValidator.WasmTypingSteps.InstructionSteps.{step_read, step_at}
+use Rattle.wasm_validator_side_notes.specs.WasmTypingValidator.BodyTyping.{typed_state, locals_in}
+use Rattle.wasm_validator_side_notes.specs.WasmTypingValidator.TypedInstructions.{within, TookAt, StandsIn}
+use Rattle.wasm_validator_side_notes.specs.WasmTypingValidator.StepsFromBytes.{ReadsStep, stepped}
+use Rattle.wasm_validator_side_notes.specs.WasmTypingValidator.declared.validator.OperatorValidator.{OperatorValidator}
+use Rattle.wasm_validator_side_notes.specs.WasmValidatorFunc.BodyValidation.{listed_in, Goes}
+use Rattle.wasm_validator_side_notes.specs.WasmSpecSideTables.OnePassTables.{Built}
+use Rattle.wasm_validator_side_notes.specs.TableViews.{shown, steps_to}
+use Rattle.wasm_validator_side_notes.specs.Tables.{Reaches, HasRead}
+use Rattle.wasm_validator_side_notes.specs.declared.table.SideTable.{SideTable}
+use Rattle.wasm_validator_side_notes.proofs.NextInstructions.{places_add}
 
 -- an operator that was read, and took its step or was refused
 module _ {A : Type 0} (C : Context UnpackedIndex) (v : OperatorValidator A) (r : BinaryReader) (i : Instruction UnpackedIndex) (more : List ℕ) (read : instruction_at written (rest r) ≡ Some (i, more)) where

@@ -1,15 +1,3 @@
-pub mod BranchNotes
-pub mod Opcodes
-pub mod EntryPlaces
-pub mod CountedLists
-pub mod NextInstructions
-pub mod FirstBytes
-pub mod ToldBytes
-pub mod LabelsKept
-pub mod InstructionBytes
-pub mod ToldNotes
 pub mod ByteSteps
 pub mod BodyLoop
 pub mod WholeTables
-pub mod HandlerNotes
-pub mod ResumeArities

@@ -10,24 +10,24 @@ use Rattle.wasm_readers.specs.WasmReadersBytes.Reader.{input, original, position
 use Rattle.wasm_readers.specs.WasmReadersBytes.declared.binary_reader.BinaryReader.{BinaryReader}
 use Rattle.wasm_readers_types.specs.WasmReadersValues.declared.indices.UnpackedIndex.{UnpackedIndex}
 use Rattle.wasm_operators.specs.Control.{func_block}
-use Rattle.wasm_spec_steps.specs.Bodies.{Local}
-use Rattle.wasm_spec_steps.specs.Machine.{State}
-use Rattle.wasm_spec_steps.specs.Steps.{start}
+use Rattle.wasm_validator_side_notes.specs.WasmTypingValidator.WasmSpecSteps.Bodies.{Local}
+use Rattle.wasm_validator_side_notes.specs.WasmTypingValidator.WasmSpecSteps.Machine.{State}
+use Rattle.wasm_validator_side_notes.specs.WasmTypingValidator.WasmSpecSteps.Steps.{start}
 use Rattle.wasm_validator_resources.specs.Answers.{world}
-use Rattle.wasm_typing_validator.specs.BodyTyping.{typed_state, locals_in, BeginsBody}
-use Rattle.wasm_typing_validator.specs.TypedInstructions.{within}
-use Rattle.wasm_typing_validator.specs.declared.validator.OperatorValidator.{OperatorValidator}
-use Rattle.wasm_validator_func.specs.Bodies.{locals_from}
-use Rattle.wasm_validator_func.specs.Functions.{Refuses, StandsInOrFirst}
-use Rattle.wasm_spec_side_tables.specs.SideTables.{side_table, greatest_height}
-use Rattle.wasm_spec_side_tables.specs.OnePassTables.{Built, resolved_each, begun, built}
-use Rattle.wasm_spec_side_tables.proofs.Entries.{tables_are_right}
+use Rattle.wasm_validator_side_notes.specs.WasmTypingValidator.BodyTyping.{typed_state, locals_in, BeginsBody}
+use Rattle.wasm_validator_side_notes.specs.WasmTypingValidator.TypedInstructions.{within}
+use Rattle.wasm_validator_side_notes.specs.WasmTypingValidator.declared.validator.OperatorValidator.{OperatorValidator}
+use Rattle.wasm_validator_side_notes.specs.WasmValidatorFunc.Bodies.{locals_from}
+use Rattle.wasm_validator_side_notes.specs.WasmValidatorFunc.Functions.{Refuses, StandsInOrFirst}
+use Rattle.wasm_validator_side_notes.specs.WasmSpecSideTables.SideTables.{side_table, greatest_height}
+use Rattle.wasm_validator_side_notes.specs.WasmSpecSideTables.OnePassTables.{Built, resolved_each, begun, built}
+use Rattle.wasm_validator_side_notes.proofs.WasmSpecSideTables.Entries.{tables_are_right}
 use Rattle.wasm_validator_side_table.specs.Answers.{told, end_of, Makes, StandsSo}
-use Rattle.wasm_validator_side_table.specs.TableViews.{shown}
-use Rattle.wasm_validator_side_table.specs.Tables.{HasRead, IsTableOf}
+use Rattle.wasm_validator_side_notes.specs.TableViews.{shown}
+use Rattle.wasm_validator_side_notes.specs.Tables.{HasRead, IsTableOf}
 use Rattle.wasm_validator_side_table.specs.declared.error.SideTableError.{SideTableError}
 use Rattle.wasm_validator_side_table.specs.declared.error.SideTableError.TheVariants.{TooLarge}
-use Rattle.wasm_validator_side_table.specs.declared.table.SideTable.{SideTable}
+use Rattle.wasm_validator_side_notes.specs.declared.table.SideTable.{SideTable}
 
 pub table_is :
     {A X : Type 0} (C : Context UnpackedIndex) (n : ℕ) (v w : OperatorValidator X) (T : Built) (t last : SideTable A) (r : BinaryReader)

@@ -4,7 +4,7 @@ use Rattle.wasm_readers_errors.specs.declared.error.Error.{Error}
 use Rattle.wasm_readers_errors.specs.declared.error.Error.TheVariants as error
 use Rattle.wasm_readers.specs.WasmReadersBytes.Reader.{place_of_next, rest}
 use Rattle.wasm_readers.specs.WasmReadersBytes.declared.binary_reader.BinaryReader.{BinaryReader}
-use Rattle.wasm_validator_func.specs.Functions.{StandsInOrFirst}
+use Rattle.wasm_validator_side_notes.specs.WasmValidatorFunc.Functions.{StandsInOrFirst}
 use Rattle.wasm_validator_side_table.specs.declared.error.SideTableError.{SideTableError}
 use Rattle.wasm_validator_side_table.specs.declared.error.SideTableError.TheVariants.{Refused, OutOfMemory, TooLarge}
 

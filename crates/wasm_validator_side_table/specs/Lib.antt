@@ -1,5 +1,2 @@
-pub mod TableViews
-pub mod Tables
-pub mod OperatorNotes
+pub use Rattle.wasm_validator_side_notes.specs as WasmValidatorSideNotes
 pub mod Answers
-pub mod ResumeOperands

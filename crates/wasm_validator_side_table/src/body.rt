@@ -5,28 +5,28 @@ ghost use Rattle.wasm_spec_rules.specs.FeatureFlags.{features_of};
 ghost use Rattle.wasm_readers.specs.WasmReadersBytes.Reader.{SameInput, position_in, place_of_next, rest};
 ghost use Rattle.wasm_parser.specs.PayloadViews.{body_of, body_reader};
 ghost use Rattle.wasm_validator_resources.specs.Answers.{world};
-ghost use Rattle.wasm_typing_stacks.specs.BodyStacks.{Kept};
-ghost use Rattle.wasm_typing_validator.specs.BodyTyping.{typed_state, locals_in};
-ghost use Rattle.wasm_typing_validator.specs.TypedInstructions.{within, IsRefusedAt, StandsIn, ReadsTo};
-ghost use Rattle.wasm_typing_validator.specs.StepsFromBytes.{ReadsStep, stepped};
-ghost use Rattle.wasm_validator_func.specs.Bodies.{instructions_from};
-ghost use Rattle.wasm_validator_func.specs.Functions.{IsFunctionBody};
-ghost use Rattle.wasm_validator_func.specs.BodyValidation.{body_in, Validates};
-ghost use Rattle.wasm_spec_side_tables.specs.OnePassTables.{resolved_each};
+ghost use Rattle.wasm_validator_side_notes.specs.WasmTypingValidator.WasmTypingStacks.BodyStacks.{Kept};
+ghost use Rattle.wasm_validator_side_notes.specs.WasmTypingValidator.BodyTyping.{typed_state, locals_in};
+ghost use Rattle.wasm_validator_side_notes.specs.WasmTypingValidator.TypedInstructions.{within, IsRefusedAt, StandsIn, ReadsTo};
+ghost use Rattle.wasm_validator_side_notes.specs.WasmTypingValidator.StepsFromBytes.{ReadsStep, stepped};
+ghost use Rattle.wasm_validator_side_notes.specs.WasmValidatorFunc.Bodies.{instructions_from};
+ghost use Rattle.wasm_validator_side_notes.specs.WasmValidatorFunc.Functions.{IsFunctionBody};
+ghost use Rattle.wasm_validator_side_notes.specs.WasmValidatorFunc.BodyValidation.{body_in, Validates};
 ghost use Rattle.wasm_validator_side_table.specs.Answers.{Makes, StandsSo};
-ghost use Rattle.wasm_validator_side_table.specs.TableViews.{shown};
-ghost use Rattle.wasm_validator_side_table.specs.Tables.{Advances, Reaches, HasRead, IsTableOf, IsEmptyTable};
+ghost use Rattle.wasm_validator_side_notes.specs.TableViews.{shown};
+ghost use Rattle.wasm_validator_side_notes.specs.Tables.{Advances, Reaches, HasRead, IsTableOf, IsEmptyTable};
 
 use crate::error::{SideTableError, of_validator};
-use crate::seldom::Taken;
-use crate::table::SideTable;
 use std::alloc::Allocator;
 use wasm_parser::FunctionBody;
 use wasm_readers::BinaryReader;
 use wasm_readers_errors::{Error, Fault, OperatorRule, Refusal};
-use wasm_spec_side_tables::{narrow_offset, resolve};
-use wasm_validator_func::{FuncToValidate, FuncValidator, FuncValidatorAllocations, read_served};
 use wasm_validator_resources::WasmModuleResources;
+use wasm_validator_side_notes::side_tables::narrow_offset;
+use wasm_validator_side_notes::validator_func::{
+    FuncToValidate, FuncValidator, FuncValidatorAllocations, read_served,
+};
+use wasm_validator_side_notes::{SideTable, Taken};
 
 /// The refusal of bytes behind the end of a body, at the first of them.
 fn behind_end(offset: u64) -> Error
@@ -35,205 +35,175 @@ fn behind_end(offset: u64) -> Error
     Error::Refused(Refusal::new(Fault::Operator(OperatorRule::Ended, 0), offset))
 }
 
-impl<A: Allocator> SideTable<A> {
-    /// Puts the places into the entries, where all blocks are closed, and says whether that was done.
-    #[tactic(auto, using(crate::proofs::EntryPlaces::resolving))]
-    pub fn finish(&mut self) -> bool
-        ensures resolved { result ≡ true → resolved_each self.old.places self.old.entries
-            ≡ Some self.new.entries }
-        ensures closed { result ≡ true → self.old.blocks ≡ [] }
-        ensures not_done { result ≡ false → self.old.blocks ≡ []
-            → resolved_each self.old.places self.old.entries ≡ None }
-        ensures counts { (self.new.operands ≡ self.old.operands)
-            × (self.new.locals ≡ self.old.locals) }
-        ensures places { (self.new.first ≡ self.old.first) × (self.new.end ≡ self.old.end) }
-    {
-        if self.blocks.len() != 0 {
-            return false;
-        }
-        let mut i = 0usize;
-        'entries: while i < self.entries.len() {
-            let entry = self.entries.as_slice()[i];
-            match resolve(self.places.as_slice(), entry) {
-                Some(resolved) => self.entries.set(i, resolved),
-                None => return false,
-            }
-            i += 1;
-        }
-        true
+/// Notes the next operator, and lets the validator take its step.
+#[tactic(auto, using(wasm_validator_side_notes::proofs::NextInstructions::advancing))]
+fn read_one<'a, T: WasmModuleResources, A: Allocator, B: Allocator>(
+    table: &mut SideTable<A>,
+    validator: &mut FuncValidator<T, B>,
+    reader: &mut BinaryReader<'a>,
+) -> Result<(), Error>
+    requires { validator.old.validator.failed ≡ false }
+    ensures advances { OnOk result (Advances (world (T.context validator.old.resources))
+        (within validator.old.validator (T.context validator.old.resources))
+        (typed_state validator.old.validator) (shown table.old) (place_of_next reader.old)
+        (rest reader.old) (typed_state validator.new.validator) (shown table.new)
+        (place_of_next reader.new) (rest reader.new)) }
+    ensures took { ReadsStep result (stepped (T.context validator.old.resources)
+        validator.old.validator.stacks reader.old) (typed_state validator.new.validator)
+        (rest reader.new) }
+    ensures going { OnOk result (validator.new.validator.failed ≡ false) }
+    ensures kept { Kept validator.old.validator.stacks validator.new.validator.stacks }
+    ensures resources { validator.new.resources ≡ validator.old.resources }
+    ensures input { SameInput reader.old reader.new }
+    ensures further { OnOk result (position_in reader.old < position_in reader.new) }
+    ensures place { IfErr result (StandsIn reader.old) }
+{
+    let start = reader.original_position();
+    let op = match read_served(reader, *validator.features()) {
+        Ok(op) => op,
+        Err(refusal) => return Err(Error::Refused(refusal)),
+    };
+    let end = reader.original_position();
+    let Some(at) = narrow_offset(start) else {
+        return Err(Error::OutOfMemory);
+    };
+    let Some(behind) = narrow_offset(end) else {
+        return Err(Error::OutOfMemory);
+    };
+    match table.op(validator, at, behind, &op) {
+        Ok(()) => Ok(()),
+        Err(error) => Err(error),
     }
+}
 
-    /// Notes the next operator, and lets the validator take its step.
-    #[tactic(auto, using(crate::proofs::NextInstructions::advancing))]
-    fn read_one<'a, T: WasmModuleResources, B: Allocator>(
-        &mut self,
-        validator: &mut FuncValidator<T, B>,
-        reader: &mut BinaryReader<'a>,
-    ) -> Result<(), Error>
-        requires { validator.old.validator.failed ≡ false }
-        ensures advances { OnOk result (Advances (world (T.context validator.old.resources))
-            (within validator.old.validator (T.context validator.old.resources))
-            (typed_state validator.old.validator) (shown self.old) (place_of_next reader.old)
-            (rest reader.old) (typed_state validator.new.validator) (shown self.new)
-            (place_of_next reader.new) (rest reader.new)) }
-        ensures took { ReadsStep result (stepped (T.context validator.old.resources)
-            validator.old.validator.stacks reader.old) (typed_state validator.new.validator)
-            (rest reader.new) }
-        ensures going { OnOk result (validator.new.validator.failed ≡ false) }
-        ensures kept { Kept validator.old.validator.stacks validator.new.validator.stacks }
-        ensures resources { validator.new.resources ≡ validator.old.resources }
-        ensures input { SameInput reader.old reader.new }
-        ensures further { OnOk result (position_in reader.old < position_in reader.new) }
-        ensures place { IfErr result (StandsIn reader.old) }
-    {
-        let start = reader.original_position();
-        let op = match read_served(reader, *validator.features()) {
-            Ok(op) => op,
-            Err(refusal) => return Err(Error::Refused(refusal)),
-        };
-        let end = reader.original_position();
-        let Some(at) = narrow_offset(start) else {
-            return Err(Error::OutOfMemory);
-        };
-        let Some(behind) = narrow_offset(end) else {
-            return Err(Error::OutOfMemory);
-        };
-        match self.op(validator, at, behind, &op) {
-            Ok(()) => Ok(()),
-            Err(error) => Err(error),
-        }
+/// Notes the next operator, and lets the validator take its step, where no fast step was taken.
+#[inline(never)]
+fn read_left<'a, T: WasmModuleResources, A: Allocator, B: Allocator>(
+    table: &mut SideTable<A>,
+    validator: &mut FuncValidator<T, B>,
+    reader: &mut BinaryReader<'a>,
+) -> Result<(), Error>
+    requires { validator.old.validator.failed ≡ false }
+    ensures advances { OnOk result (Advances (world (T.context validator.old.resources))
+        (within validator.old.validator (T.context validator.old.resources))
+        (typed_state validator.old.validator) (shown table.old) (place_of_next reader.old)
+        (rest reader.old) (typed_state validator.new.validator) (shown table.new)
+        (place_of_next reader.new) (rest reader.new)) }
+    ensures took { ReadsStep result (stepped (T.context validator.old.resources)
+        validator.old.validator.stacks reader.old) (typed_state validator.new.validator)
+        (rest reader.new) }
+    ensures going { OnOk result (validator.new.validator.failed ≡ false) }
+    ensures kept { Kept validator.old.validator.stacks validator.new.validator.stacks }
+    ensures resources { validator.new.resources ≡ validator.old.resources }
+    ensures input { SameInput reader.old reader.new }
+    ensures further { OnOk result (position_in reader.old < position_in reader.new) }
+    ensures place { IfErr result (StandsIn reader.old) }
+{
+    match table.read_other(validator, reader) {
+        Taken::Yes => return Ok(()),
+        Taken::No => {}
+        Taken::NoMemory => return Err(Error::OutOfMemory),
     }
-
-    /// Notes the next operator, and lets the validator take its step, where no fast step was taken.
-    #[inline(never)]
-    fn read_left<'a, T: WasmModuleResources, B: Allocator>(
-        &mut self,
-        validator: &mut FuncValidator<T, B>,
-        reader: &mut BinaryReader<'a>,
-    ) -> Result<(), Error>
-        requires { validator.old.validator.failed ≡ false }
-        ensures advances { OnOk result (Advances (world (T.context validator.old.resources))
-            (within validator.old.validator (T.context validator.old.resources))
-            (typed_state validator.old.validator) (shown self.old) (place_of_next reader.old)
-            (rest reader.old) (typed_state validator.new.validator) (shown self.new)
-            (place_of_next reader.new) (rest reader.new)) }
-        ensures took { ReadsStep result (stepped (T.context validator.old.resources)
-            validator.old.validator.stacks reader.old) (typed_state validator.new.validator)
-            (rest reader.new) }
-        ensures going { OnOk result (validator.new.validator.failed ≡ false) }
-        ensures kept { Kept validator.old.validator.stacks validator.new.validator.stacks }
-        ensures resources { validator.new.resources ≡ validator.old.resources }
-        ensures input { SameInput reader.old reader.new }
-        ensures further { OnOk result (position_in reader.old < position_in reader.new) }
-        ensures place { IfErr result (StandsIn reader.old) }
-    {
-        match self.read_other(validator, reader) {
-            Taken::Yes => return Ok(()),
-            Taken::No => {}
-            Taken::NoMemory => return Err(Error::OutOfMemory),
-        }
-        match self.read_one(validator, reader) {
-            Ok(()) => Ok(()),
-            Err(error) => Err(error),
-        }
+    match read_one(table, validator, reader) {
+        Ok(()) => Ok(()),
+        Err(error) => Err(error),
     }
+}
 
-    /// Notes and validates operators up to the end of the body.
-    fn read_all<'a, T: WasmModuleResources, B: Allocator>(
-        &mut self,
-        validator: &mut FuncValidator<T, B>,
-        reader: &mut BinaryReader<'a>,
-    ) -> Result<(), Error>
-        requires going { validator.old.validator.failed ≡ false }
-        requires empty { (typed_state validator.old.validator).operands ≡ [] }
-        ensures reaches { OnOk result (Reaches (world (T.context validator.old.resources))
-            (within validator.old.validator (T.context validator.old.resources))
-            (typed_state validator.old.validator) (shown self.old) (place_of_next reader.old)
-            (rest reader.old) (typed_state validator.new.validator) (shown self.new)
-            self.new.operands (place_of_next reader.new) (rest reader.new)) }
-        ensures took { ReadsTo result (instructions_from (world (T.context validator.old.resources))
-            (within validator.old.validator (T.context validator.old.resources))
-            (typed_state validator.old.validator) (rest reader.old))
-            (typed_state validator.new.validator) (rest reader.new) }
-        ensures kept { Kept validator.old.validator.stacks validator.new.validator.stacks }
-        ensures input { SameInput reader.old reader.new }
-        ensures onward { position_in reader.old ≤ position_in reader.new }
-        ensures place { IfErr result (StandsIn reader.old) }
-    {
-        let mut ahead = *reader;
-        let mut count = 0usize;
-        let mut height = 0usize;
-        'operators: while !validator.is_finished() {
-            let start = ahead;
-            match validator.told_op(&mut ahead) {
-                Ok(told) => {
-                    if !self.note_told(validator, told, start, ahead, count) {
-                        return Err(Error::OutOfMemory);
-                    }
-                    count = validator.len_operands();
-                    height = height.max(count);
-                    continue;
+/// Notes and validates operators up to the end of the body.
+fn read_all<'a, T: WasmModuleResources, A: Allocator, B: Allocator>(
+    table: &mut SideTable<A>,
+    validator: &mut FuncValidator<T, B>,
+    reader: &mut BinaryReader<'a>,
+) -> Result<(), Error>
+    requires going { validator.old.validator.failed ≡ false }
+    requires empty { (typed_state validator.old.validator).operands ≡ [] }
+    ensures reaches { OnOk result (Reaches (world (T.context validator.old.resources))
+        (within validator.old.validator (T.context validator.old.resources))
+        (typed_state validator.old.validator) (shown table.old) (place_of_next reader.old)
+        (rest reader.old) (typed_state validator.new.validator) (shown table.new)
+        table.new.operands (place_of_next reader.new) (rest reader.new)) }
+    ensures took { ReadsTo result (instructions_from (world (T.context validator.old.resources))
+        (within validator.old.validator (T.context validator.old.resources))
+        (typed_state validator.old.validator) (rest reader.old))
+        (typed_state validator.new.validator) (rest reader.new) }
+    ensures kept { Kept validator.old.validator.stacks validator.new.validator.stacks }
+    ensures input { SameInput reader.old reader.new }
+    ensures onward { position_in reader.old ≤ position_in reader.new }
+    ensures place { IfErr result (StandsIn reader.old) }
+{
+    let mut ahead = *reader;
+    let mut count = 0usize;
+    let mut height = 0usize;
+    'operators: while !validator.is_finished() {
+        let start = ahead;
+        match validator.told_op(&mut ahead) {
+            Ok(told) => {
+                if !table.note_told(validator, told, start, ahead, count) {
+                    return Err(Error::OutOfMemory);
                 }
-                Err(_) => {}
+                count = validator.len_operands();
+                height = height.max(count);
+                continue;
             }
-            // The reader itself is not lent, so that it can be kept in registers.
-            let mut behind = ahead;
-            match self.read_left(validator, &mut behind) {
-                Ok(()) => {}
-                Err(error) => return Err(error),
-            }
-            ahead.go_on_from(&behind);
-            count = validator.len_operands();
-            height = height.max(count);
+            Err(_) => {}
         }
-        if height >= 4_294_967_295 {
-            return Err(Error::OutOfMemory);
+        // The reader itself is not lent, so that it can be kept in registers.
+        let mut behind = ahead;
+        match read_left(table, validator, &mut behind) {
+            Ok(()) => {}
+            Err(error) => return Err(error),
         }
-        self.operands = height as u32;
-        reader.go_on_from(&ahead);
-        Ok(())
+        ahead.go_on_from(&behind);
+        count = validator.len_operands();
+        height = height.max(count);
     }
+    if height >= 4_294_967_295 {
+        return Err(Error::OutOfMemory);
+    }
+    table.set_operands(height as u32);
+    reader.go_on_from(&ahead);
+    Ok(())
+}
 
-    /// Validates a whole body, and notes its operators.
-    fn read_body<T: WasmModuleResources, B: Allocator>(
-        &mut self,
-        validator: &mut FuncValidator<T, B>,
-        body: &FunctionBody<'_>,
-    ) -> Result<(), Error>
-        requires going { validator.old.validator.failed ≡ false }
-        requires empty { (typed_state validator.old.validator).operands ≡ [] }
-        ensures read { OnOk result (HasRead (T.context validator.old.resources)
-            validator.old.validator validator.new.validator (shown self.old) self.new
-            (body_reader body.now)) }
-        ensures took { Validates result (body_in validator.old.validator
-            (T.context validator.old.resources) (body_of body.now))
-            (locals_in validator.new.validator) (typed_state validator.new.validator) }
-        ensures place { IfErr result (StandsIn (body_reader body.now)) }
-    {
-        let mut reader = body.get_binary_reader();
-        match validator.read_locals(&mut reader) {
-            Ok(()) => {}
-            Err(error) => return Err(error),
-        }
-        let start = reader.original_position();
-        match self.read_all(validator, &mut reader) {
-            Ok(()) => {}
-            Err(error) => return Err(error),
-        }
-        let stop = reader.original_position();
-        if !reader.is_empty() {
-            return Err(behind_end(stop));
-        }
-        let Some(first) = narrow_offset(start) else {
-            return Err(Error::OutOfMemory);
-        };
-        let Some(end) = narrow_offset(stop) else {
-            return Err(Error::OutOfMemory);
-        };
-        self.first = first;
-        self.end = end;
-        Ok(())
+/// Validates a whole body, and notes its operators.
+fn read_body<T: WasmModuleResources, A: Allocator, B: Allocator>(
+    table: &mut SideTable<A>,
+    validator: &mut FuncValidator<T, B>,
+    body: &FunctionBody<'_>,
+) -> Result<(), Error>
+    requires going { validator.old.validator.failed ≡ false }
+    requires empty { (typed_state validator.old.validator).operands ≡ [] }
+    ensures read { OnOk result (HasRead (T.context validator.old.resources)
+        validator.old.validator validator.new.validator (shown table.old) table.new
+        (body_reader body.now)) }
+    ensures took { Validates result (body_in validator.old.validator
+        (T.context validator.old.resources) (body_of body.now))
+        (locals_in validator.new.validator) (typed_state validator.new.validator) }
+    ensures place { IfErr result (StandsIn (body_reader body.now)) }
+{
+    let mut reader = body.get_binary_reader();
+    match validator.read_locals(&mut reader) {
+        Ok(()) => {}
+        Err(error) => return Err(error),
     }
+    let start = reader.original_position();
+    match read_all(table, validator, &mut reader) {
+        Ok(()) => {}
+        Err(error) => return Err(error),
+    }
+    let stop = reader.original_position();
+    if !reader.is_empty() {
+        return Err(behind_end(stop));
+    }
+    let Some(first) = narrow_offset(start) else {
+        return Err(Error::OutOfMemory);
+    };
+    let Some(end) = narrow_offset(stop) else {
+        return Err(Error::OutOfMemory);
+    };
+    table.set_places(first, end);
+    Ok(())
 }
 
 /// The greatest offset that an entry may have.
@@ -269,11 +239,11 @@ fn make<T: WasmModuleResources + Drop, A: Allocator, B: Allocator>(
         Ok(validator) => validator,
         Err(error) => return Err(of_validator(error)),
     };
-    match table.read_body(&mut validator, body) {
+    match read_body(table, &mut validator, body) {
         Ok(()) => {}
         Err(error) => return Err(of_validator(error)),
     }
-    table.locals = validator.len_locals();
+    table.set_locals(validator.len_locals());
     if table.finish() {
         Ok(validator.into_allocations())
     } else {

@@ -27,7 +27,7 @@ use Rattle.wasm_validator_states.proofs.WholeModules.{decides_refusal, decides_a
 use Rattle.wasm_validator_modules.specs.PayloadAnswers.{IsRefused, bodies_given, latest_of}
 use Rattle.wasm_validator_modules.proofs.Runs.{Progress, begun, has_taken, progress-step, refused_whole, refused_format, rejected_payload}
 use Rattle.wasm_validator_modules.specs.declared.payload.ValidPayload.{ValidPayload}
-use Rattle.wasm_validator_side_table.specs.declared.table.SideTable.{SideTable}
+use Rattle.wasm_validator_side_table.specs.WasmValidatorSideNotes.declared.table.SideTable.{SideTable}
 use Rattle.wasm_validator_tables.specs.declared.function.Found.{Found}
 use Rattle.wasm_validator_tables.specs.declared.function.NoTable.{NoTable}
 use Rattle.wasm_validator_tables.specs.declared.function.NoTable.TheVariants as no_table

@@ -14,8 +14,8 @@ use Rattle.wasm_validator_modules.specs.Verdict.{AreNoneUpToBodies}
 use Rattle.wasm_validator_states.specs.BodyAnswers.{body_seen}
 use Rattle.wasm_validator_modules.specs.PayloadAnswers.{ShowsModule, EndsBy, bodies_given}
 use Rattle.wasm_validator_modules.specs.declared.payload.ValidPayload.{ValidPayload}
-use Rattle.wasm_validator_side_table.specs.Tables.{IsTableOf}
-use Rattle.wasm_validator_side_table.specs.declared.table.SideTable.{SideTable}
+use Rattle.wasm_validator_side_table.specs.WasmValidatorSideNotes.Tables.{IsTableOf}
+use Rattle.wasm_validator_side_table.specs.WasmValidatorSideNotes.declared.table.SideTable.{SideTable}
 use Rattle.wasm_validator_tables.specs.declared.function.Found.{Found}
 use Rattle.wasm_validator_tables.specs.declared.function.NoTable.{NoTable}
 use Rattle.wasm_validator_tables.specs.declared.function.NoTable.TheVariants as no_table

@@ -14,7 +14,7 @@ use Rattle.wasm_validator_states.specs.BodyAnswers.{body_seen}
 use Rattle.wasm_validator_modules.specs.PayloadAnswers.{ShowsModule, GivenEndBy, bodies_given, latest_of}
 use Rattle.wasm_validator_modules.specs.declared.payload.ValidPayload.{ValidPayload}
 use Rattle.wasm_validator_modules.specs.declared.payload.ValidPayload.TheVariants as payload
-use Rattle.wasm_validator_side_table.specs.declared.table.SideTable.{SideTable}
+use Rattle.wasm_validator_side_table.specs.WasmValidatorSideNotes.declared.table.SideTable.{SideTable}
 use Rattle.wasm_validator_tables.specs.declared.function.NoTable.{NoTable}
 use Rattle.wasm_validator_tables.specs.declared.function.NoTable.TheVariants as no_table
 use Rattle.wasm_validator_tables.specs.declared.module.BodyTable.{BodyTable}

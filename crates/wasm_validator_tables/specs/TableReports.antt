@@ -3,7 +3,7 @@ use Rattle.std.specs.Prelude.{ℕ, ◌≡◌, ◌<◌, ◌≤◌, List, length, 
 use Rattle.wasm_readers_errors.specs.WasmReadersFeatures.declared.features.WasmFeatures.{WasmFeatures}
 use Rattle.std.specs.declared.alloc.Global.{Global}
 use Rattle.wasm_spec_side_tables.specs.declared.entry.Entry.{Entry}
-use Rattle.wasm_validator_side_table.specs.declared.table.SideTable.{SideTable}
+use Rattle.wasm_validator_side_table.specs.WasmValidatorSideNotes.declared.table.SideTable.{SideTable}
 use Rattle.wasm_validator_tables.specs.declared.report.TableCounts.{TableCounts}
 use Rattle.wasm_validator_tables.specs.FunctionTables.{IsTableIn}
 

@@ -4,7 +4,7 @@ ghost use Rattle.std.specs.Prelude.{ℕ, IfOk, IfErr, OnOk, OnErr};
 ghost use Rattle.wasm_parser.specs.Places.{ends_at};
 ghost use Rattle.wasm_parser.specs.PayloadViews.{seen};
 ghost use Rattle.wasm_validator_modules.specs.PayloadAnswers.{GivenEndBy, IsRefused};
-ghost use Rattle.wasm_validator_side_table.specs.Tables.{IsEmptyTable};
+ghost use Rattle.wasm_validator_side_table.specs.WasmValidatorSideNotes.Tables.{IsEmptyTable};
 ghost use Rattle.wasm_validator_tables.specs.FunctionTables.{FoundEndsBy, Gives, IsBodyIn, IsMade, IsTableIn, Takes, Tells, TellsOf, found_at, found_seen};
 
 use std::alloc::{Allocator, Global};

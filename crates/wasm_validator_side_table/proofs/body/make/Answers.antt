@@ -4,12 +4,12 @@ use Rattle.wasm_spec_rules.specs.FeatureFlags.{features_of}
 use Rattle.wasm_readers.specs.WasmReadersBytes.Reader.{input, original, place_of_next, rest}
 use Rattle.wasm_readers_types.specs.WasmReadersValues.declared.indices.UnpackedIndex.{UnpackedIndex}
 use Rattle.wasm_parser.specs.PayloadViews.{body_of, body_reader}
-use Rattle.wasm_typing_validator.specs.BodyTyping.{typed_state, locals_in}
-use Rattle.wasm_validator_func.specs.Functions.{IsFunctionBody}
-use Rattle.wasm_validator_func.specs.BodyValidation.{body_in, Validates}
-use Rattle.wasm_validator_func.proofs.Functions.{accepted, begins_not, body_refused}
-use Rattle.wasm_validator_side_table.specs.TableViews.{shown}
-use Rattle.wasm_validator_side_table.specs.Tables.{HasRead, IsTableOf}
+use Rattle.wasm_validator_side_notes.specs.WasmTypingValidator.BodyTyping.{typed_state, locals_in}
+use Rattle.wasm_validator_side_notes.specs.WasmValidatorFunc.Functions.{IsFunctionBody}
+use Rattle.wasm_validator_side_notes.specs.WasmValidatorFunc.BodyValidation.{body_in, Validates}
+use Rattle.wasm_validator_side_notes.proofs.WasmValidatorFunc.Functions.{accepted, begins_not, body_refused}
+use Rattle.wasm_validator_side_notes.specs.TableViews.{shown}
+use Rattle.wasm_validator_side_notes.specs.Tables.{HasRead, IsTableOf}
 use Rattle.wasm_validator_side_table.proofs.WholeTables.{table_is, makes, makes_told, ends_low}
 use Rattle.wasm_validator_side_table.proofs.body.make.Goals as goal
 
@@ -48,7 +48,7 @@ returns-then-finish-clause-table g c =
     let u = c.read_body.new.validator.validator in
     let r = body_reader c.args.body.now in
     let T = shown c.begin.new.self in
-    let t = c.read_body.new.self in
+    let t = c.read_body.new.table in
     let last = c.finish.new.self in
     let there : D ≡ C = ap (λ x. g.T.WasmModuleResources.context x) c.in-Ok-into_validator.ensures.resources in
     let read : HasRead C v u T t r = subst (λ (X : Context UnpackedIndex). HasRead X v u T t r) there c.in-Ok-read_body.ensures.read in

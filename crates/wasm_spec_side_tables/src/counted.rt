@@ -1,0 +1,139 @@
+//! A list over a `Vec`. It counts its items itself, so that what gives one puts it into a place that
+//! is there already, and only a list that grows calls out.
+
+ghost use Rattle.std.specs.Prelude.{◌≡◌, ◌++◌, ◌∷◌, [], length, slice_set, OnOk, OnErr};
+
+use std::alloc::{AllocError, Allocator, Global};
+use std::marker::Model;
+
+/// A list. A contract sees its items in order.
+#[derive(Drop)]
+pub struct Counted<T, A: Allocator = Global> {
+    vec: Vec<T, A>,
+    count: usize,
+}
+
+impl<T, A: Allocator> Model for Counted<T, A> {
+    ghost use Rattle.std.specs.Prelude.{◌≤◌, List, length, take};
+
+    ghost Value = { List T };
+
+    ghost view = { λ s. take s.count s.vec.items };
+
+    ghost invariant = { λ s. s.count ≤ length s.vec.items };
+}
+
+impl<T: Copy + Drop, A: Allocator> Counted<T, A> {
+    /// The empty list. It takes no memory until the first item.
+    pub fn new(alloc: A) -> Counted<T, A>
+        ensures { result ≡ [] }
+    {
+        Counted {
+            vec: Vec::new(alloc),
+            count: 0,
+        }
+    }
+
+    /// How many items there are.
+    #[inline(always)]
+    #[tactic(auto, using(crate::proofs::CountedLists::reads))]
+    pub fn len(&self) -> usize
+        ensures { result ≡ length self.now }
+    {
+        self.count
+    }
+
+    /// The items.
+    #[inline(always)]
+    #[tactic(auto, using(crate::proofs::CountedLists::reads))]
+    pub fn as_slice(&self) -> &[T]
+        ensures { result.now ≡ self.now }
+    {
+        &self.vec[..self.count]
+    }
+
+    /// Puts an item behind those of a list without free places.
+    #[cold]
+    #[inline(never)]
+    #[tactic(auto, using(crate::proofs::CountedLists::pushes))]
+    fn grow(&mut self, item: T) -> Result<(), AllocError>
+        ensures ok { OnOk result (self.new ≡ self.old ++ item ∷ []) }
+        ensures err { OnErr result (self.new ≡ self.old) }
+    {
+        self.vec.truncate(self.count);
+        match self.vec.push(item) {
+            Ok(()) => {
+                self.count += 1;
+                Ok(())
+            }
+            Err(_) => Err(AllocError),
+        }
+    }
+
+    /// Puts an item behind the others. Where memory is refused, all stays.
+    #[inline(always)]
+    #[tactic(auto, using(crate::proofs::CountedLists::pushes))]
+    pub fn push(&mut self, item: T) -> Result<(), AllocError>
+        ensures ok { OnOk result (self.new ≡ self.old ++ item ∷ []) }
+        ensures err { OnErr result (self.new ≡ self.old) }
+    {
+        if self.count < self.vec.len() {
+            self.vec[self.count] = item;
+            self.count += 1;
+            return Ok(());
+        }
+        self.grow(item)
+    }
+
+    /// Puts an item twice behind those of a list without two free places.
+    #[cold]
+    #[inline(never)]
+    #[tactic(auto, using(crate::proofs::CountedLists::pairs))]
+    fn grow_twice(&mut self, item: T) -> Result<(), AllocError>
+        ensures ok { OnOk result (self.new ≡ self.old ++ item ∷ item ∷ []) }
+        ensures err { OnErr result (self.new ≡ self.old) }
+    {
+        self.vec.truncate(self.count);
+        if self.vec.push(item).is_err() || self.vec.push(item).is_err() {
+            return Err(AllocError);
+        }
+        self.count += 2;
+        Ok(())
+    }
+
+    /// Puts an item twice behind the others. Where memory is refused, all stays.
+    #[inline(always)]
+    #[tactic(auto, using(crate::proofs::CountedLists::pairs))]
+    pub fn push_twice(&mut self, item: T) -> Result<(), AllocError>
+        ensures ok { OnOk result (self.new ≡ self.old ++ item ∷ item ∷ []) }
+        ensures err { OnErr result (self.new ≡ self.old) }
+    {
+        let count = self.count;
+        if 2 <= self.vec.len() - count {
+            self.vec[count] = item;
+            self.vec[count + 1] = item;
+            self.count = count + 2;
+            return Ok(());
+        }
+        self.grow_twice(item)
+    }
+
+    /// Puts an item into the place of another, if there is one at this index.
+    #[inline(always)]
+    #[tactic(auto, using(crate::proofs::CountedLists::writes))]
+    pub fn set(&mut self, index: usize, item: T)
+        ensures { self.new ≡ slice_set self.old index item }
+    {
+        if index < self.count {
+            self.vec[index] = item;
+        }
+    }
+
+    /// Leaves no item. The memory stays.
+    #[inline(always)]
+    pub fn clear(&mut self)
+        ensures { self.new ≡ [] }
+    {
+        self.count = 0;
+    }
+}

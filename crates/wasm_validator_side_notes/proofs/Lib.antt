@@ -1,0 +1,14 @@
+pub use Rattle.wasm_spec_side_tables.proofs as WasmSpecSideTables
+pub use Rattle.wasm_typing_validator.proofs as WasmTypingValidator
+pub use Rattle.wasm_validator_func.proofs as WasmValidatorFunc
+pub mod BranchNotes
+pub mod Opcodes
+pub mod EntryPlaces
+pub mod NextInstructions
+pub mod FirstBytes
+pub mod ToldBytes
+pub mod LabelsKept
+pub mod InstructionBytes
+pub mod ToldNotes
+pub mod HandlerNotes
+pub mod ResumeArities
