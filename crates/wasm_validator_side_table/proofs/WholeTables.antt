@@ -29,7 +29,7 @@ use Rattle.wasm_validator_side_table.specs.declared.error.SideTableError.{SideTa
 use Rattle.wasm_validator_side_table.specs.declared.error.SideTableError.TheVariants.{TooLarge}
 use Rattle.wasm_validator_side_notes.specs.declared.table.SideTable.{SideTable}
 
-pub table_is :
+table_is :
     {A X : Type 0} (C : Context UnpackedIndex) (n : ℕ) (v w : OperatorValidator X) (T : Built) (t last : SideTable A) (r : BinaryReader)
     → BeginsBody v C n → T ≡ begun → HasRead C v w T t r → resolved_each t.places t.entries ≡ Some last.entries → t.blocks ≡ [] → last.operands ≡ t.operands → last.locals ≡ length (locals_in w)
     → last.first ≡ t.first → last.end ≡ t.end → IsTableOf (features_of v.stacks.features) C n (place_of_next r) (rest r) last
@@ -60,6 +60,16 @@ table_is C n v w T t last r begins fresh read resolved closed operands locals fi
       begins = first ∙ read.begins;
       ends = end ∙ read.ends;
     }
+
+-- and where only the number of locals was set before its places were put in
+module _ {A X : Type 0} (C : Context UnpackedIndex) (n m : ℕ) (v w : OperatorValidator X) (T : Built) (t x last : SideTable A) (r : BinaryReader) (set_is : x ≡ record t { locals = m }) where
+  pub table_with_locals :
+      BeginsBody v C n → T ≡ begun → HasRead C v w T t r → m ≡ length (locals_in w) → resolved_each x.places x.entries ≡ Some last.entries → x.blocks ≡ []
+      → last.operands ≡ x.operands → last.locals ≡ x.locals → last.first ≡ x.first → last.end ≡ x.end → IsTableOf (features_of v.stacks.features) C n (place_of_next r) (rest r) last
+  table_with_locals begins fresh read many resolved closed operands locals first end =
+      table_is C n v w T t last r begins fresh read (subst (λ (y : SideTable A). resolved_each y.places y.entries ≡ Some last.entries) set_is resolved)
+      (subst (λ (y : SideTable A). y.blocks ≡ []) set_is closed) (operands ∙ ap (λ (y : SideTable A). y.operands) set_is) (locals ∙ ap (λ (y : SideTable A). y.locals) set_is ∙ many)
+      (first ∙ ap (λ (y : SideTable A). y.first) set_is) (end ∙ ap (λ (y : SideTable A). y.end) set_is)
 
 -- nothing is left to read
 pub nothing_left : (xs : List ℕ) → length xs ≡ 0 → xs ≡ []

@@ -10,7 +10,7 @@ use Rattle.wasm_validator_side_notes.specs.WasmValidatorFunc.BodyValidation.{bod
 use Rattle.wasm_validator_side_notes.proofs.WasmValidatorFunc.Functions.{accepted, begins_not, body_refused}
 use Rattle.wasm_validator_side_notes.specs.TableViews.{shown}
 use Rattle.wasm_validator_side_notes.specs.Tables.{HasRead, IsTableOf}
-use Rattle.wasm_validator_side_table.proofs.WholeTables.{table_is, makes, makes_told, ends_low}
+use Rattle.wasm_validator_side_table.proofs.WholeTables.{table_with_locals, makes, makes_told, ends_low}
 use Rattle.wasm_validator_side_table.proofs.body.make.Goals as goal
 
 pub returns-in-Err-into_validator-clause-decides : goal.returns-in-Err-into_validator-clause-decides
@@ -54,9 +54,10 @@ returns-then-finish-clause-table g c =
     let read : HasRead C v u T t r = subst (λ (X : Context UnpackedIndex). HasRead X v u T t r) there c.in-Ok-read_body.ensures.read in
     let counts = c.finish.ensures.counts in
     let places = c.finish.ensures.places in
-    let locals : last.locals ≡ length (locals_in u) = counts.1 ∙ c.len_locals-table.ensures in
+    let middle = c.set_locals.new.self in
     let all : IsTableOf (features_of v.stacks.features) C n (place_of_next r) (rest r) last =
-    table_is C n v u T t last r c.in-Ok-into_validator.ensures.begins c.in-Ok-begin.ensures.begun read (search (rules, tests)) (search (rules, tests)) counts.0 locals places.0 places.1 in
+    table_with_locals C n c.len_locals.result v u T t middle last r c.set_locals.ensures c.in-Ok-into_validator.ensures.begins c.in-Ok-begin.ensures.begun read c.len_locals.ensures (search (rules, tests)) (search (rules, tests))
+    counts.0 counts.1 places.0 places.1 in
     subst (λ x. IsTableOf (features_of x) C n (place_of_next r) (rest r) last) c.in-Ok-into_validator.ensures.features all
 
 pub returns-then-finish-clause-decides : goal.returns-then-finish-clause-decides
