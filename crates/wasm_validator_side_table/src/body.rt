@@ -1,6 +1,6 @@
 //! Whole bodies.
 
-ghost use Rattle.std.specs.Prelude.{◌≡◌, ◌<◌, ◌≤◌, [], true, false, max, OnOk, OnErr, IfErr, Some, None};
+ghost use Rattle.std.specs.Prelude.{◌≡◌, ◌<◌, ◌≤◌, [], false, OnOk, OnErr, IfErr};
 ghost use Rattle.wasm_spec_rules.specs.FeatureFlags.{features_of};
 ghost use Rattle.wasm_readers.specs.WasmReadersBytes.Reader.{SameInput, position_in, place_of_next, rest};
 ghost use Rattle.wasm_parser.specs.PayloadViews.{body_of, body_reader};
@@ -226,10 +226,18 @@ fn make<T: WasmModuleResources + Drop, A: Allocator, B: Allocator>(
     ensures place { IfErr result (StandsSo (body_reader body.now)) }
 {
     if MOST < body.get_binary_reader().range().end {
-        return match function.validate(body, allocations) {
-            Ok(_memory) => Err(SideTableError::TooLarge),
-            Err(error) => Err(of_validator(error)),
+        // By look-ups that are lent, so that the steps of the loop below have no other caller, and are
+        // inlined there.
+        let lent = FuncToValidate {
+            resources: &function.resources,
+            index: function.index,
+            ty: function.ty,
+            features: function.features,
         };
+        match lent.validate(body, allocations) {
+            Ok(_memory) => return Err(SideTableError::TooLarge),
+            Err(error) => return Err(of_validator(error)),
+        }
     }
     match table.begin() {
         Ok(()) => {}
