@@ -13,7 +13,7 @@
 ghost use Rattle.std.specs.Prelude.{◌≡◌, ◌==◌, ◌≤◌, ◌<◌, ◌^◌, ◌-◌, ◌+◌, ◌≤ℤ◌, ◌<ℤ◌, ◌-ℤ◌, pos, IfOk, OnOk, OnErr, IfSome, OnSome, IfNone, length, [], ◌∷◌, Some, None, IfErr};
 ghost use Rattle.wasm_readers_errors.specs.WasmSpec.Values.{u32_at, u64_at, s33_index_at, bytes_at, sized_at, name_at, signed_at as integer_at, unsigned_at};
 
-use crate::leb128::{long_signed_at, signed_at, wrong_number};
+use crate::leb128::{long_signed_at, signed_at, u32_in_five, wrong_number};
 use std::ops::Range;
 use wasm_readers_errors::{Fault, Integer, Malformed, Refusal};
 
@@ -249,6 +249,24 @@ impl<'a> BinaryReader<'a> {
     /// read.
     #[inline(never)]
     fn next_long_u32(&mut self) -> Option<u32>
+        ensures same { SameInput self.old self.new }
+        ensures onward { position_in self.old ≤ position_in self.new }
+        ensures some { IfSome result (λ n. u32_at (rest self.old) ≡ Some (n, rest self.new)) }
+        ensures further { OnSome result (position_in self.old < position_in self.new) }
+        ensures none { IfNone result (u32_at (rest self.old) ≡ None) }
+    {
+        match u32_in_five(self.remaining()) {
+            Some((number, used)) => {
+                self.position += used;
+                Some(number)
+            }
+            None => self.next_u32_by_bytes(),
+        }
+    }
+
+    /// The same, byte by byte.
+    #[inline(always)]
+    fn next_u32_by_bytes(&mut self) -> Option<u32>
         ensures same { SameInput self.old self.new }
         ensures onward { position_in self.old ≤ position_in self.new }
         ensures some { IfSome result (λ n. u32_at (rest self.old) ≡ Some (n, rest self.new)) }

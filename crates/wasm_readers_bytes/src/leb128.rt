@@ -1,8 +1,8 @@
-//! Signed numbers (Core Specification 3.0, Binary Format, Values, Integers), and where a number
-//! that is none goes wrong.
+//! Signed numbers and long unsigned ones (Core Specification 3.0, Binary Format, Values, Integers),
+//! and where a number that is none goes wrong.
 
-ghost use Rattle.std.specs.Prelude.{◌≡◌, ◌≤◌, ◌<◌, ◌^◌, ◌-◌, ◌≤ℤ◌, ◌<ℤ◌, ◌-ℤ◌, ◌+ℤ◌, ◌*ℤ◌, pos, IfSome, IfNone, length, drop};
-ghost use Rattle.wasm_readers_errors.specs.WasmSpec.Values.{signed_at as encoded_at};
+ghost use Rattle.std.specs.Prelude.{◌≡◌, ◌≤◌, ◌<◌, ◌^◌, ◌-◌, ◌≤ℤ◌, ◌<ℤ◌, ◌-ℤ◌, ◌+ℤ◌, ◌*ℤ◌, pos, Some, IfSome, IfNone, length, drop};
+ghost use Rattle.wasm_readers_errors.specs.WasmSpec.Values.{u32_at, signed_at as encoded_at};
 ghost use Rattle.wasm_readers_bytes.specs.Reader.{number_fault, before_wrong};
 
 use wasm_readers_errors::Malformed;
@@ -42,6 +42,41 @@ pub(crate) fn signed_at(bytes: &[u8], bits: u8) -> Option<(i64, usize)>
                 None
             }
         }
+    }
+}
+
+/// The unsigned number of at most 32 bits at the front, and how many bytes it takes, if there are as
+/// many as one may take, so that the end is looked for once.
+#[inline(always)]
+pub(crate) fn u32_in_five(bytes: &[u8]) -> Option<(u32, usize)>
+    ensures found { IfSome result (λ r. u32_at bytes.now ≡ Some (r.0, drop r.1 bytes.now)) }
+    ensures within { IfSome result (λ r. r.1 ≤ length bytes.now) }
+    ensures some { IfSome result (λ r. 0 < r.1) }
+{
+    match bytes {
+        [first, second, third, fourth, fifth, ..] => {
+            if *first < 128 {
+                return Some((u32::from(*first), 1));
+            }
+            let low = u32::from(*first - 128);
+            if *second < 128 {
+                return Some((low + (u32::from(*second) << 7), 2));
+            }
+            let low = low + (u32::from(*second - 128) << 7);
+            if *third < 128 {
+                return Some((low + (u32::from(*third) << 14), 3));
+            }
+            let low = low + (u32::from(*third - 128) << 14);
+            if *fourth < 128 {
+                return Some((low + (u32::from(*fourth) << 21), 4));
+            }
+            let low = low + (u32::from(*fourth - 128) << 21);
+            if *fifth < 16 {
+                return Some((low + (u32::from(*fifth) << 28), 5));
+            }
+            None
+        }
+        _ => None,
     }
 }
 
