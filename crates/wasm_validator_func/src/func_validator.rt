@@ -46,7 +46,9 @@ pub struct FuncToValidate<T> {
 
 /// The memory of a validator of bodies, to be handed on from one body to the next.
 #[derive(Drop)]
-pub struct FuncValidatorAllocations<A: Allocator = Global>(OperatorValidatorAllocations<A>);
+pub struct FuncValidatorAllocations<A: Allocator = Global>(
+    pub(crate) OperatorValidatorAllocations<A>,
+);
 
 /// The validation of one function body. Once any call but `try_op` was refused, it refuses all.
 pub struct FuncValidator<T, A: Allocator = Global> {
