@@ -89,6 +89,15 @@ module _ {A : Type 0} (C : Context UnpackedIndex) (v w : OperatorValidator A) (r
       let same : x.op ≡ i = ap (λ (y : Instruction ℕ × List ℕ). y.0) (the_same (x.op, rest q) (i, more) (sym x.read ∙ e)) in
       subst (λ (j : Instruction ℕ). steps_to C v j ≡ Some (typed_state w)) same x.step
 
+  -- which goes on by what it branches and does to the blocks
+  pub noted_as :
+      (i : Instruction ℕ) (more : List ℕ) (T U V : Built) → SameInput r q → instruction_at (λ n. n) (rest r) ≡ Some (i, more) → planned_in C v (place_of_next r) (branches i) T ≡ Some U
+      → nested_in (nesting i) (place_of_next q) U ≡ Some V → stepped C v.stacks r ≡ Some (typed_state w, rest q) → Goes T V
+  noted_as i more T U V same e f g p =
+      let x = performs p in
+      let s : i ≡ x.op = ap (λ (y : Instruction ℕ × List ℕ). y.0) (the_same (i, more) (x.op, rest q) (sym e ∙ x.read)) in
+      goes_by T U V same x (subst (λ (j : Instruction ℕ). planned_in C v (place_of_next r) (branches j) T ≡ Some U) s f) (subst (λ (j : Instruction ℕ). nested_in (nesting j) (place_of_next q) U ≡ Some V) s g)
+
   module _ (xs : List ℕ) (b : ℕ) where
     -- the instruction begins with this byte
     begins : (x : Performs) → rest r ≡ b ∷ xs → instruction_at (λ n. n) (b ∷ xs) ≡ Some (x.op, rest q)

@@ -6,12 +6,12 @@ use Rattle.wasm_spec.specs.MatchingTests.{World}
 use Rattle.wasm_spec_rules.specs.Contexts.{Context}
 use Rattle.wasm_spec_rules.specs.Attempts.{◌>>=◌, guard}
 use Rattle.wasm_readers_types.specs.WasmReadersValues.declared.indices.UnpackedIndex.{UnpackedIndex}
-use Rattle.wasm_operators.specs.Control.{br, br_if}
+use Rattle.wasm_operators.specs.Control.{br, br_if, br_table}
 use Rattle.wasm_operators.specs.Instructions.{control}
 use Rattle.wasm_spec_steps.specs.Bodies.{Surroundings}
-use Rattle.wasm_spec_steps.specs.Actions.{label, joined, take, give, stop}
-use Rattle.wasm_spec_steps.specs.Machine.{State, Frame, unreachable_in, become_unreachable, push_vals}
-use Rattle.wasm_spec_steps.specs.Meanings.{label_by, types_at, act, run}
+use Rattle.wasm_spec_steps.specs.Actions.{label, joined, take, give, stop, branch_to_one_of}
+use Rattle.wasm_spec_steps.specs.Machine.{State, Frame, unreachable_in, become_unreachable, push_vals, pop_vals}
+use Rattle.wasm_spec_steps.specs.Meanings.{label_by, types_at, label_at, labels_fit, act, run}
 use Rattle.wasm_spec_steps.specs.Shapes.{shape_of, one}
 use Rattle.wasm_spec_steps.specs.Steps.{is_open, step_in, actions_of}
 use Rattle.wasm_spec_steps.proofs.OperandSequences.{pop_vals-frames}
@@ -54,3 +54,19 @@ module _ (C : Context UnpackedIndex) where
         let after : push_vals d.0 a.0 ≡ t = the_same (push_vals d.0 a.0) c.0 d.2 ∙ the_same c.0 t c.2 in
         let same : a.0.frames ≡ s.frames = (pop_vals-frames W b.0 f.0 a.0 b.2).0 ∙ ap (λ (q : State UnpackedIndex). q.frames) (sym g.1) in
         ap (λ (fs : List (Frame UnpackedIndex)). label_from fs k) (sym (ap (λ (q : State UnpackedIndex). q.frames) after) ∙ same)
+
+    pub table-labels : (ls : List ℕ) (l k : ℕ) (s t : State UnpackedIndex) → step_in W B (control (br_table ls l)) s ≡ Some t → label_in C t k ≡ label_in C s k
+    table-labels ls l k s t e =
+        let f = bind-gives (guard (is_open s) s) (run W B (actions_of (shape_of (control (br_table ls l))))) t e in
+        let g = guard-gives (is_open s) s f.0 f.1 in
+        let a = bind-gives (act W B (take (one i32)) f.0) (run W B (branch_to_one_of ls l ∷ [])) t f.2 in
+        let b = bind-gives (types_at W B f.0 (one i32)) (λ vs. pop_vals W vs f.0) a.0 a.1 in
+        let c = bind-gives (act W B (branch_to_one_of ls l) a.0) (run W B []) t a.2 in
+        let d = bind-gives (label_at W B a.0 l) _ c.0 c.1 in
+        let p = bind-gives (pop_vals W d.0 a.0) _ c.0 d.2 in
+        let q = bind-gives (guard (labels_fit W B a.0 (length d.0) ls) p.0) become_unreachable c.0 p.2 in
+        let h = guard-gives (labels_fit W B a.0 (length d.0) ls) p.0 q.0 q.1 in
+        let u : become_unreachable q.0 ≡ Some t = q.2 ∙ ap (λ (x : State UnpackedIndex). Some x) (the_same c.0 t c.2) in
+        let frames : a.0.frames ≡ s.frames = (pop_vals-frames W b.0 f.0 a.0 b.2).0 ∙ ap (λ (x : State UnpackedIndex). x.frames) (sym g.1) in
+        let same : q.0.frames ≡ s.frames = ap (λ (x : State UnpackedIndex). x.frames) (sym h.1) ∙ (pop_vals-frames W d.0 a.0 p.0 p.1).0 ∙ frames in
+        stopped q.0.frames q.0 t k u ∙ ap (λ (fs : List (Frame UnpackedIndex)). label_from fs k) same

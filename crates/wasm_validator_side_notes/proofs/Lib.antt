@@ -10,5 +10,6 @@ pub mod ToldBytes
 pub mod LabelsKept
 pub mod InstructionBytes
 pub mod ToldNotes
+pub mod LabelNotes
 pub mod HandlerNotes
 pub mod ResumeArities

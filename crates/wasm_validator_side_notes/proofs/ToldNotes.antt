@@ -86,7 +86,7 @@ module _ {A : Type 0} (C : Context UnpackedIndex) (w : OperatorValidator A) (cou
     counts_same : (l : ℕ) → label_counts (world C) (within v C) (typed_state v) l ≡ label_in C (typed_state v) l
     counts_same l = by_frame (slice_get (typed_state v).frames l)
 
-    planned_as : (taken l : ℕ) (e : Entry) → label_in C (typed_state w) l ≡ label_in C (typed_state v) l → entry_to C (typed_state w) T at l (count - taken) ≡ Some e → planned_one C v at (to_label l taken) T ≡ Some e
+    pub planned_as : (taken l : ℕ) (e : Entry) → label_in C (typed_state w) l ≡ label_in C (typed_state v) l → entry_to C (typed_state w) T at l (count - taken) ≡ Some e → planned_one C v at (to_label l taken) T ≡ Some e
     planned_as taken l e s p =
         let o : Option OpenBlock = slice_get T.nest.open_blocks l in
         let a : entry_by at (length (typed_state v).operands - taken) o (label_in C (typed_state v) l) ≡ Some e =

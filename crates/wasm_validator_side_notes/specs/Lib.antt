@@ -5,3 +5,4 @@ pub mod TableViews
 pub mod Tables
 pub mod OperatorNotes
 pub mod ResumeOperands
+pub mod LabelEntries

@@ -32,7 +32,7 @@ pub(crate) enum Noted {
 impl<A: Allocator> SideTable<A> {
     /// The entry of a branch to a label, where so many of the operands were taken that it isn't given.
     #[inline(always)]
-    fn entry_to<T: WasmModuleResources, B: Allocator>(
+    pub(crate) fn entry_to<T: WasmModuleResources, B: Allocator>(
         &self,
         validator: &FuncValidator<T, B>,
         at: u32,

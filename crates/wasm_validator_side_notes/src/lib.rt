@@ -7,6 +7,7 @@ mod branches;
 mod counts;
 mod frequent;
 mod handlers;
+mod labels;
 mod notes;
 mod seldom;
 mod table;

@@ -45,6 +45,16 @@ fn is_quiet(opcode: u8) -> bool
     }
 }
 
+/// Whether a `br_table` is next.
+#[inline(always)]
+fn is_table(reader: &BinaryReader) -> bool {
+    let mut ahead = *reader;
+    match ahead.next_u8() {
+        Some(opcode) => opcode == 0x0e,
+        None => false,
+    }
+}
+
 impl<A: Allocator> SideTable<A> {
     /// What is to be noted of the next operator, if it is one of these.
     fn foresee<'a, T: WasmModuleResources, B: Allocator>(
@@ -100,6 +110,9 @@ impl<A: Allocator> SideTable<A> {
         let Some(at) = narrow_offset(reader.original_position()) else {
             return Taken::No;
         };
+        if is_table(reader) {
+            return self.read_table(validator, reader, at);
+        }
         let Some(noted) = self.foresee(validator, reader, at) else {
             return Taken::No;
         };
