@@ -108,4 +108,6 @@ ends_low r end e h = subst (λ (n : ℕ). n < 2 ^ 32) (e ∙ end_is r) (omega (a
 pub ends_high : (r : BinaryReader) (end : ℕ) → end ≡ original r + length (input r) → 4294967295 < end → 2 ^ 32 ≤ end_of r
 ends_high r end e h = subst (λ (n : ℕ). 2 ^ 32 ≤ n) (e ∙ end_is r) (omega (arith, h))
 
+pub ruleset ends = (end_is)
+
 pub ruleset answers = (makes_none, stands_so)

@@ -1,6 +1,6 @@
 //! Whole bodies.
 
-ghost use Rattle.std.specs.Prelude.{◌≡◌, ◌<◌, ◌≤◌, [], false, OnOk, OnErr, IfErr};
+ghost use Rattle.std.specs.Prelude.{◌≡◌, ◌<◌, ◌≤◌, ◌^◌, [], false, true, OnOk, OnErr, IfErr};
 ghost use Rattle.wasm_spec_rules.specs.FeatureFlags.{features_of};
 ghost use Rattle.wasm_readers.specs.WasmReadersBytes.Reader.{SameInput, position_in, place_of_next, rest};
 ghost use Rattle.wasm_parser.specs.PayloadViews.{body_of, body_reader};
@@ -12,7 +12,7 @@ ghost use Rattle.wasm_validator_side_notes.specs.WasmTypingValidator.StepsFromBy
 ghost use Rattle.wasm_validator_side_notes.specs.WasmValidatorFunc.Bodies.{instructions_from};
 ghost use Rattle.wasm_validator_side_notes.specs.WasmValidatorFunc.Functions.{IsFunctionBody};
 ghost use Rattle.wasm_validator_side_notes.specs.WasmValidatorFunc.BodyValidation.{body_in, Validates};
-ghost use Rattle.wasm_validator_side_table.specs.Answers.{Makes, StandsSo};
+ghost use Rattle.wasm_validator_side_table.specs.Answers.{Makes, StandsSo, end_of};
 ghost use Rattle.wasm_validator_side_notes.specs.TableViews.{shown};
 ghost use Rattle.wasm_validator_side_notes.specs.Tables.{Advances, Reaches, HasRead, IsTableOf, IsEmptyTable};
 
@@ -209,6 +209,60 @@ fn read_body<T: WasmModuleResources, A: Allocator, B: Allocator>(
 /// The greatest offset that an entry may have.
 const MOST: u64 = 4_294_967_295;
 
+/// Whether the offset behind a body has more than 32 bits, so that it has no table.
+#[tactic(auto, using(crate::proofs::WholeTables::ends))]
+pub fn is_too_large(body: &FunctionBody<'_>) -> bool
+    ensures few { result ≡ false → end_of (body_reader body.now) < 2 ^ 32 }
+    ensures many { result ≡ true → 2 ^ 32 ≤ end_of (body_reader body.now) }
+{
+    MOST < body.get_binary_reader().range().end
+}
+
+/// Validates the body of another function in place of the one that this validator validated before,
+/// and makes its side table, both in memory that was used before. The offset behind it must be one
+/// that an entry may have ([`is_too_large`]).
+///
+/// # Errors
+///
+/// Refused exactly where [`FuncToValidate::validate`] refuses the body, and where memory is. The
+/// table is of no use then. The validator may begin another body all the same.
+#[tactic(auto, using(crate::proofs::WholeTables::answers))]
+pub fn validate_next_with_side_table<T: WasmModuleResources + Drop, A: Allocator, B: Allocator>(
+    validator: &mut FuncValidator<T, B>,
+    function: FuncToValidate<T>,
+    body: &FunctionBody<'_>,
+    table: &mut SideTable<A>,
+) -> Result<(), SideTableError>
+    requires few { end_of (body_reader body.now) < 2 ^ 32 }
+    ensures table { OnOk result (IsTableOf (features_of function.features)
+        (T.context function.resources) function.ty (place_of_next (body_reader body.now))
+        (body_of body.now) table.new) }
+    ensures decides { Makes (IsFunctionBody (features_of function.features)
+        (T.context function.resources) function.ty (body_of body.now))
+        (body_reader body.now) result }
+    ensures place { IfErr result (StandsSo (body_reader body.now)) }
+{
+    match table.begin() {
+        Ok(()) => {}
+        Err(_) => return Err(SideTableError::OutOfMemory),
+    }
+    match validator.begin_next(function) {
+        Ok(()) => {}
+        Err(error) => return Err(of_validator(error)),
+    }
+    match read_body(table, validator, body) {
+        Ok(()) => {}
+        Err(error) => return Err(of_validator(error)),
+    }
+    let locals = validator.len_locals();
+    table.set_locals(locals);
+    if table.finish() {
+        Ok(())
+    } else {
+        Err(SideTableError::OutOfMemory)
+    }
+}
+
 /// Validates a body, and makes its table where the offset behind it is one that an entry may have.
 #[tactic(auto, using(crate::proofs::WholeTables::answers))]
 fn make<T: WasmModuleResources + Drop, A: Allocator, B: Allocator>(
@@ -225,7 +279,7 @@ fn make<T: WasmModuleResources + Drop, A: Allocator, B: Allocator>(
         (body_reader body.now) result }
     ensures place { IfErr result (StandsSo (body_reader body.now)) }
 {
-    if MOST < body.get_binary_reader().range().end {
+    if is_too_large(body) {
         // By look-ups that are lent, so that the steps of the loop below have no other caller, and are
         // inlined there.
         let lent = FuncToValidate {

@@ -6,7 +6,7 @@
 mod body;
 mod error;
 
-pub use body::validate_with_side_table;
+pub use body::{is_too_large, validate_next_with_side_table, validate_with_side_table};
 pub use error::SideTableError;
 pub use wasm_validator_side_notes::SideTable;
 
@@ -18,6 +18,6 @@ pub mod side_tables {
 /// Passed on from `wasm_validator_func`.
 pub mod validator_func {
     pub use wasm_validator_side_notes::validator_func::{
-        FuncToValidate, FuncValidatorAllocations, read_operator,
+        FuncToValidate, FuncValidator, FuncValidatorAllocations, read_operator,
     };
 }

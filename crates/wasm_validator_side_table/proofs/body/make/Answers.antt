@@ -1,7 +1,7 @@
-use Rattle.std.proofs.Common.{◌≡◌, ◌≤◌, ◌+◌, ◌∙◌, ap, subst, ℕ, length, Some, Err, rules, tests}
+use Rattle.std.proofs.Common.{◌≡◌, ap, subst, ℕ, Some, Err, rules, tests}
 use Rattle.wasm_spec_rules.specs.Contexts.{Context}
 use Rattle.wasm_spec_rules.specs.FeatureFlags.{features_of}
-use Rattle.wasm_readers.specs.WasmReadersBytes.Reader.{input, original, place_of_next, rest}
+use Rattle.wasm_readers.specs.WasmReadersBytes.Reader.{place_of_next, rest}
 use Rattle.wasm_readers_types.specs.WasmReadersValues.declared.indices.UnpackedIndex.{UnpackedIndex}
 use Rattle.wasm_parser.specs.PayloadViews.{body_of, body_reader}
 use Rattle.wasm_validator_side_notes.specs.WasmTypingValidator.BodyTyping.{typed_state, locals_in}
@@ -10,7 +10,7 @@ use Rattle.wasm_validator_side_notes.specs.WasmValidatorFunc.BodyValidation.{bod
 use Rattle.wasm_validator_side_notes.proofs.WasmValidatorFunc.Functions.{accepted, begins_not, body_refused}
 use Rattle.wasm_validator_side_notes.specs.TableViews.{shown}
 use Rattle.wasm_validator_side_notes.specs.Tables.{HasRead, IsTableOf}
-use Rattle.wasm_validator_side_table.proofs.WholeTables.{table_with_locals, makes, makes_told, ends_low}
+use Rattle.wasm_validator_side_table.proofs.WholeTables.{table_with_locals, makes, makes_told}
 use Rattle.wasm_validator_side_table.proofs.body.make.Goals as goal
 
 pub returns-in-Err-into_validator-clause-decides : goal.returns-in-Err-into_validator-clause-decides
@@ -74,7 +74,4 @@ returns-then-finish-clause-decides g c =
     let took : body_in v C bytes ≡ Some (locals_in u, typed_state u) =
     subst (λ (X : Context UnpackedIndex). body_in v X bytes ≡ Some (locals_in u, typed_state u)) there c.in-Ok-read_body.ensures.took in
     let is : P = accepted v F C c.args.function.ty bytes (locals_in u) (typed_state u) (ap features_of c.in-Ok-into_validator.ensures.features) c.in-Ok-into_validator.ensures.few c.in-Ok-into_validator.ensures.begins took in
-    let same : c.get_binary_reader.result ≡ r = c.get_binary_reader.ensures in
-    let end : c.range.result.end ≡ original r + length (input r) = c.range.ensures.end ∙ ap (λ x. original x + length (input x)) same in
-    let low : c.range.result.end ≤ 4294967295 = search (rules, tests) in
-    makes P r c.into_allocations.result (ends_low r c.range.result.end end low) is
+    makes P r c.into_allocations.result (c.is_too_large.ensures.few (search (rules, tests))) is
