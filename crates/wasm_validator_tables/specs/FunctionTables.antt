@@ -16,6 +16,8 @@ use Rattle.wasm_validator_modules.specs.PayloadAnswers.{ShowsModule, EndsBy, bod
 use Rattle.wasm_validator_modules.specs.declared.payload.ValidPayload.{ValidPayload}
 use Rattle.wasm_validator_side_table.specs.WasmValidatorSideNotes.Tables.{IsTableOf}
 use Rattle.wasm_validator_side_table.specs.WasmValidatorSideNotes.declared.table.SideTable.{SideTable}
+use Rattle.wasm_validator_side_table.specs.declared.error.SideTableError.{SideTableError}
+use Rattle.wasm_validator_side_table.specs.declared.error.SideTableError.TheVariants as side
 use Rattle.wasm_validator_tables.specs.declared.function.Found.{Found}
 use Rattle.wasm_validator_tables.specs.declared.function.NoTable.{NoTable}
 use Rattle.wasm_validator_tables.specs.declared.function.NoTable.TheVariants as no_table
@@ -104,6 +106,12 @@ pub record Takes {A : Type 0} (function : ℕ) (p : Piece) (end : ℕ) (s t : St
   pub given : handed s p ≡ bodies_given valid
   pub gives : Gives function valid o
   pub within : FoundEndsBy end o
+
+-- why there is no table of the body of the function with this index
+abbrev pub reason_of : {A : Type 0} → ℕ → SideTableError → NoTable A
+reason_of index (side.Refused r) = no_table.Refused (InFunction index r)
+reason_of index side.OutOfMemory = no_table.Refused OutOfMemory
+reason_of index side.TooLarge = no_table.TooLarge
 
 -- What is said of a body that was handed out: it is one of its type and this is its table, or it is none, or it is too large.
 pub record IsMade {A : Type 0} (body : BodyToValidate) (offset : ℕ) (t : SideTable A) : Type 0 where

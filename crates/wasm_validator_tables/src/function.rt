@@ -1,17 +1,21 @@
 //! One function of a module.
 
-ghost use Rattle.std.specs.Prelude.{ℕ, IfOk, IfErr, OnOk, OnErr};
+ghost use Rattle.std.specs.Prelude.{ℕ, ◌≡◌, ◌<◌, ◌^◌, IfOk, IfErr, OnOk, OnErr};
 ghost use Rattle.wasm_parser.specs.Places.{ends_at};
-ghost use Rattle.wasm_parser.specs.PayloadViews.{seen};
+ghost use Rattle.wasm_parser.specs.PayloadViews.{body_reader, seen};
 ghost use Rattle.wasm_validator_modules.specs.PayloadAnswers.{GivenEndBy, IsRefused};
 ghost use Rattle.wasm_validator_side_table.specs.WasmValidatorSideNotes.Tables.{IsEmptyTable};
-ghost use Rattle.wasm_validator_tables.specs.FunctionTables.{FoundEndsBy, Gives, IsBodyIn, IsMade, IsTableIn, Takes, Tells, TellsOf, found_at, found_seen};
+ghost use Rattle.wasm_validator_side_table.specs.Answers.{end_of};
+ghost use Rattle.wasm_validator_tables.specs.FunctionTables.{FoundEndsBy, Gives, IsBodyIn, IsMade, IsTableIn, Takes, Tells, TellsOf, found_at, found_seen, reason_of};
 
 use std::alloc::{Allocator, Global};
 use wasm_validator_modules::readers::{FunctionBody, Parser, Payload, WasmFeatures};
 use wasm_validator_modules::validator_func::{FuncToValidate, FuncValidatorAllocations};
 use wasm_validator_modules::{Error, ValidPayload, Validator, ValidatorId, ValidatorResources};
-use wasm_validator_side_table::{SideTable, SideTableError, validate_with_side_table};
+use wasm_validator_side_table::validator_func::FuncValidator;
+use wasm_validator_side_table::{
+    SideTable, SideTableError, validate_next_with_side_table, validate_with_side_table,
+};
 
 /// Why there is no side table.
 #[derive(Drop)]
@@ -128,6 +132,17 @@ fn pick<'a, A: Allocator>(valid: ValidPayload<'a, A>, function: u32) -> Option<F
     }
 }
 
+/// Why there is no table of the body of the function with this index.
+fn reason<A: Allocator>(index: u32, error: SideTableError) -> NoTable<A>
+    ensures { result ≡ reason_of index error }
+{
+    match error {
+        SideTableError::Refused(refusal) => NoTable::Refused(Error::InFunction { index, refusal }),
+        SideTableError::OutOfMemory => NoTable::Refused(Error::OutOfMemory),
+        SideTableError::TooLarge => NoTable::TooLarge,
+    }
+}
+
 /// Makes the side table of a body that was handed out, in memory that is given back.
 pub fn make_for<A: Allocator + Copy>(
     memory: FuncValidatorAllocations<A>,
@@ -142,10 +157,25 @@ pub fn make_for<A: Allocator + Copy>(
     let index = function.index;
     match validate_with_side_table(function, &body, memory, table) {
         Ok(memory) => Ok(memory),
-        Err(SideTableError::Refused(refusal)) => {
-            Err(NoTable::Refused(Error::InFunction { index, refusal }))
-        }
-        Err(SideTableError::OutOfMemory) => Err(NoTable::Refused(Error::OutOfMemory)),
-        Err(SideTableError::TooLarge) => Err(NoTable::TooLarge),
+        Err(error) => Err(reason(index, error)),
+    }
+}
+
+/// Makes the side table of a body that was handed out and ends where 32 bits have the offset, in place
+/// of the one that the validator validated before.
+pub fn make_next<A: Allocator + Copy>(
+    validator: &mut FuncValidator<ValidatorResources<A>, A>,
+    found: Found<'_, A>,
+    table: &mut SideTable<A>,
+) -> Result<(), NoTable<A>>
+    requires few { end_of (body_reader found.body) < 2 ^ 32 }
+    ensures made { OnOk result (IsMade (found_seen found.entry) (found_at found.entry) table.new) }
+    ensures decides { IfErr result (TellsOf (found_seen found.entry) (found_at found.entry)) }
+{
+    let Found { function, body } = found;
+    let index = function.index;
+    match validate_next_with_side_table(validator, function, &body, table) {
+        Ok(()) => Ok(()),
+        Err(error) => Err(reason(index, error)),
     }
 }

@@ -1,22 +1,25 @@
 //! All bodies of a module.
 
-ghost use Rattle.std.specs.Prelude.{◌≡◌, [], IfSome, IfNone, IfOk, IfErr, OnOk, Some, None, Ok, Err};
+ghost use Rattle.std.specs.Prelude.{◌≡◌, ◌<◌, ◌^◌, [], IfSome, IfNone, IfOk, IfErr, OnOk, Some, None, Ok, Err};
 ghost use Rattle.wasm_parser.specs.Places.{ends_at, reader_end};
 ghost use Rattle.wasm_parser.specs.PayloadViews.{body_of, body_reader, seen};
 ghost use Rattle.wasm_spec.specs.Framing.{CodeEntry};
 ghost use Rattle.wasm_validator_modules.specs.Verdict.{DecidesAlone};
-ghost use Rattle.wasm_validator_tables.specs.FunctionTables.{found_at, found_seen};
+ghost use Rattle.wasm_validator_side_table.specs.Answers.{end_of};
+ghost use Rattle.wasm_validator_tables.specs.FunctionTables.{IsMade, found_at, found_seen};
 ghost use Rattle.wasm_validator_tables.specs.ModuleTables.{Adds, AreMade, DecidesTables, Gathers, GivesLarge, HasSomeLargeBody, IsLarge, IsLargeBody, Keeps, Makes, TellsLarge};
 
-use crate::function::{Found, NoTable, make_for};
+use crate::function::{Found, NoTable, make_for, make_next};
 use crate::report::{TableCounts, counts_of};
 use std::alloc::{AllocError, Allocator, Global};
-use std::mem;
 use wasm_spec_side_tables::Entry;
 use wasm_validator_modules::readers::{FunctionBody, Parser, Payload, WasmFeatures};
 use wasm_validator_modules::validator_func::FuncValidatorAllocations;
-use wasm_validator_modules::{Error, Types, ValidPayload, Validator, ValidatorId};
-use wasm_validator_side_table::SideTable;
+use wasm_validator_modules::{
+    Error, Types, ValidPayload, Validator, ValidatorId, ValidatorResources,
+};
+use wasm_validator_side_table::validator_func::FuncValidator;
+use wasm_validator_side_table::{SideTable, is_too_large};
 
 /// What is told of the table of one body among those of all. C reads it as `struct
 /// ruthvelka_body_table`.
@@ -189,14 +192,14 @@ fn gather_other<'a, A: Allocator + Copy>(
 }
 
 /// What payloads gave so far: the types of the module that has ended, what is told of the tables of
-/// bodies, and their entries; and the memory in which one table is made after another.
+/// bodies, and their entries; and the table and the validator in which one body comes after another.
 pub struct Making<A: Allocator> {
     pub(crate) alloc: A,
     pub(crate) ended: Option<Types<A>>,
     pub(crate) tables: Vec<BodyTable, A>,
     pub(crate) entries: Vec<Entry, A>,
     pub(crate) table: SideTable<A>,
-    pub(crate) memory: FuncValidatorAllocations<A>,
+    pub(crate) validator: Option<FuncValidator<ValidatorResources<A>, A>>,
 }
 
 // By hand: so each way out takes one call for it, and not a step for each field.
@@ -208,7 +211,7 @@ impl<A: Allocator> Drop for Making<A> {
             tables: _,
             entries: _,
             table: _,
-            memory: _,
+            validator: _,
         } = self;
     }
 }
@@ -225,7 +228,7 @@ impl<A: Allocator + Copy> Making<A> {
             tables: Vec::new(alloc),
             entries: Vec::new(alloc),
             table: SideTable::new(alloc),
-            memory: FuncValidatorAllocations::new(alloc),
+            validator: None,
         }
     }
 
@@ -244,6 +247,55 @@ impl<A: Allocator + Copy> Making<A> {
         }
     }
 
+    /// Makes the table of a body that was handed out.
+    fn make_table(&mut self, found: Found<'_, A>) -> Result<(), NoTable<A>>
+        ensures made { OnOk result
+            (IsMade (found_seen found.entry) (found_at found.entry) self.new.table) }
+        ensures told { (self.new.tables ≡ self.old.tables)
+            × (self.new.entries ≡ self.old.entries) × (self.new.ended ≡ self.old.ended) }
+        ensures large { IfErr result
+            (IsLarge (IsLargeBody (found_seen found.entry) (found_at found.entry))) }
+    {
+        if is_too_large(&found.body) {
+            let memory = FuncValidatorAllocations::new(self.alloc);
+            return match make_for(memory, found, &mut self.table) {
+                Ok(_memory) => Ok(()),
+                Err(why) => Err(why),
+            };
+        }
+        match &mut self.validator {
+            Some(validator) => match make_next(validator, found, &mut self.table) {
+                Ok(()) => Ok(()),
+                Err(why) => Err(why),
+            },
+            None => self.make_first(found),
+        }
+    }
+
+    /// The same of the first body, which ends where 32 bits have the offset.
+    fn make_first(&mut self, found: Found<'_, A>) -> Result<(), NoTable<A>>
+        requires few { end_of (body_reader found.body) < 2 ^ 32 }
+        ensures made { OnOk result
+            (IsMade (found_seen found.entry) (found_at found.entry) self.new.table) }
+        ensures told { (self.new.tables ≡ self.old.tables)
+            × (self.new.entries ≡ self.old.entries) × (self.new.ended ≡ self.old.ended) }
+        ensures large { IfErr result
+            (IsLarge (IsLargeBody (found_seen found.entry) (found_at found.entry))) }
+    {
+        let resources = match found.function.resources.clone() {
+            Ok(resources) => resources,
+            Err(_) => return Err(NoTable::Refused(Error::OutOfMemory)),
+        };
+        let memory = FuncValidatorAllocations::new(self.alloc);
+        let mut validator = FuncValidator::without_body(resources, memory);
+        match make_next(&mut validator, found, &mut self.table) {
+            Ok(()) => {}
+            Err(why) => return Err(why),
+        }
+        self.validator = Some(validator);
+        Ok(())
+    }
+
     /// Makes the table of a body that was handed out, and tells it behind the others.
     fn make(&mut self, found: Found<'_, A>) -> Result<(), NoTable<A>>
         ensures made { OnOk result (Makes (found_seen found.entry) (found_at found.entry)
@@ -252,9 +304,8 @@ impl<A: Allocator + Copy> Making<A> {
             (IsLarge (IsLargeBody (found_seen found.entry) (found_at found.entry))) }
     {
         let function = found.function.index;
-        let memory = mem::replace(&mut self.memory, FuncValidatorAllocations::new(self.alloc));
-        match make_for(memory, found, &mut self.table) {
-            Ok(memory) => self.memory = memory,
+        match self.make_table(found) {
+            Ok(()) => {}
             Err(why) => return Err(why),
         }
         match push_table(&mut self.tables, &mut self.entries, function, &self.table) {
@@ -276,7 +327,7 @@ impl<A: Allocator + Copy> Making<A> {
             tables,
             entries,
             table: _,
-            memory: _,
+            validator: _,
         } = self;
         match ended {
             Some(types) => Some(ModuleTables {
