@@ -86,7 +86,7 @@ impl<T: Copy + Drop, A: Allocator> Stack<T, A> {
     }
 
     /// Puts an item on top.
-    #[inline]
+    #[inline(always)]
     #[tactic(auto, using(crate::proofs::ReversedLists::pushes))]
     pub fn push(&mut self, item: T) -> Result<(), AllocError>
         ensures ok { OnOk result (self.new ≡ item ∷ self.old) }

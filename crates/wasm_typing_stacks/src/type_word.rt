@@ -50,7 +50,7 @@ impl TypeWord {
     }
 
     /// The word of a type.
-    #[inline]
+    #[inline(always)]
     #[tactic(auto, unfolding(crate::specs::TypeWords::val_at))]
     pub fn new(ty: ValType) -> TypeWord
         ensures { val_in result ≡ val_of ty }
