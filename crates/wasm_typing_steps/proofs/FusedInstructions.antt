@@ -37,12 +37,13 @@ use Rattle.wasm_typing_fast.specs.WasmTypingControl.WasmTypingChecks.WasmTypingS
 use Rattle.wasm_typing_fast.specs.WasmTypingControl.WasmTypingChecks.Steps.{acted}
 use Rattle.wasm_typing_fast.specs.Blocks.{block_giving, block_named}
 use Rattle.wasm_typing_fast.specs.WasmTypingControl.FastSteps.{Fast}
-use Rattle.wasm_typing_steps.specs.InstructionSteps.{Fused, performed, performed_from, step_at}
+use Rattle.wasm_typing_steps.specs.InstructionSteps.{Fused, FusedAs, performed, performed_from, step_at}
 use Rattle.wasm_typing_fast.specs.SignedNumbers.{behind_signed}
 use Rattle.wasm_typing_fast.specs.WasmTypingControl.declared.not_taken.NotTaken.{NotTaken}
+use Rattle.wasm_typing_fast.specs.WasmTypingControl.declared.not_taken.NotTaken.TheVariants as not_taken
 use Rattle.wasm_typing_steps.specs.declared.told.Told.{Told}
 use Rattle.wasm_typing_steps.specs.declared.told.Told.TheVariants.{Quiet}
-use Rattle.wasm_typing_steps.specs.ToldSteps.{told_of, told_at, told_as, Tells, IsPlain}
+use Rattle.wasm_typing_steps.specs.ToldSteps.{is_taken, left_for, told_of, told_at, told_as, Tells, IsPlain}
 
 below : (b m : ℕ) → b < m → nat_lt b m ≡ true
 below b m h = grind (arith, nat_tests)
@@ -90,19 +91,24 @@ is_plain : (b : ℕ) (bytes : List ℕ) (i : Instruction UnpackedIndex × List �
 is_plain b bytes i true e f = e
 is_plain b bytes i false e f = let n : plain_from written b bytes ≡ None = no_plain b bytes (under b 0xfb e) in absurd cc
 
-pub fused_left : (e : NotTaken) (o : Option (State UnpackedIndex × List ℕ)) (old new : State UnpackedIndex) (bytes : List ℕ) → new ≡ old → Fused {X = Unit {0}} (Err e) o old new bytes
+pub fused_left : (e : NotTaken) (o : Option (State UnpackedIndex × List ℕ)) (old new : State UnpackedIndex) (bytes : List ℕ) → new ≡ old → Fused (Err e) o old new bytes
 unfolding Fused
 fused_left e o old new bytes h = h
 
-pub told_left : (e : NotTaken) (o : Option (State UnpackedIndex × List ℕ)) (old new : State UnpackedIndex) (bytes : List ℕ) → new ≡ old → Fused {X = Told} (Err e) o old new bytes
-unfolding Fused
-told_left e o old new bytes h = h
+never_taken : (y : NotTaken) → is_taken (left_for y) ≡ false
+never_taken not_taken.Left = refl
+never_taken not_taken.OutOfMemory = refl
+
+-- where none is taken all stays
+pub told_left : (q : Told) (o : Option (State UnpackedIndex × List ℕ)) (old new : State UnpackedIndex) (bytes : List ℕ) → is_taken q ≡ false → new ≡ old → FusedAs q o old new bytes
+unfolding FusedAs
+told_left q o old new bytes e h = (λ f. absurd cc, λ f. h)
 
 -- a step, and what is told of it
-pub fused_told : (q : Result Told NotTaken) (r : Result (Unit {0}) NotTaken) (t : Told) (o : Option (State UnpackedIndex × List ℕ)) (old new : State UnpackedIndex) (bytes : List ℕ) → q ≡ told_as r t → Fused r o old new bytes → Fused q o old new bytes
-unfolding Fused told_as
-fused_told q (Ok x) t o old new bytes e p = rw e p
-fused_told q (Err y) t o old new bytes e p = rw e p
+pub fused_told : (q : Told) (r : Result (Unit {0}) NotTaken) (t : Told) (o : Option (State UnpackedIndex × List ℕ)) (old new : State UnpackedIndex) (bytes : List ℕ) → q ≡ told_as r t → is_taken t ≡ true → Fused r o old new bytes → FusedAs q o old new bytes
+unfolding Fused told_as FusedAs
+fused_told q (Ok x) t o old new bytes e d p = (λ f. p, λ f. absurd cc)
+fused_told q (Err y) t o old new bytes e d p = told_left q o old new bytes (ap is_taken e ∙ never_taken y) p
 
 between : (b : ℕ) → 0x20 ≤ b → b < 0xd0 → told_of b ≡ Some Quiet
 between b l h =
@@ -123,20 +129,24 @@ between b l h =
       below b 0xd0 h,
     ) refl
 
-module _ (b : ℕ) (q : Result Told NotTaken) where
+module _ (b : ℕ) (q : Told) where
   -- a step that is told so, if that is what the first byte says
   tells : (r : Result (Unit {0}) NotTaken) (t : Told) → q ≡ told_as r t → told_of b ≡ Some t → Tells q b
   unfolding Tells told_as
-  tells (Ok x) t e f = rw e f
-  tells (Err y) t e f = rw e tt
+  tells (Ok x) t e f = λ h. f ∙ ap (λ (u : Told). Some u) (sym e)
+  tells (Err y) t e f = λ h. let n : is_taken q ≡ false = ap is_taken e ∙ never_taken y in absurd cc
+
+  not_told : is_taken q ≡ false → Tells q b
+  unfolding Tells
+  not_told e = λ h. absurd cc
 
   pub tells_of : (r : Result (Unit {0}) NotTaken) (t : Told) (k : ℕ) → b ≡ k → q ≡ told_as r t → told_of k ≡ Some t → Tells q b
   tells_of r t k f e g = tells r t e (ap told_of f ∙ g)
 
   pub tells_plain : (r : Result (Unit {0}) NotTaken) → q ≡ told_as r Quiet → IsPlain r b → Tells q b
-  unfolding Tells told_as IsPlain
-  tells_plain (Ok x) e h = rw e (between b h.0 h.1)
-  tells_plain (Err y) e h = rw e tt
+  unfolding told_as IsPlain
+  tells_plain (Ok x) e h = tells (Ok x) Quiet e (between b h.0 h.1)
+  tells_plain (Err y) e h = not_told (ap is_taken e ∙ never_taken y)
 
 -- which opcodes the tables take
 module _ (b : ℕ) where
@@ -155,9 +165,9 @@ module _ (b : ℕ) where
   pub plain_access : (r : Result (Unit {0}) NotTaken) → 0x28 ≤ b → b < 0x3f → IsPlain r b
   plain_access r l h = plain_at r (omega arith) (omega arith)
 
-pub tells_left : (e : NotTaken) (b : ℕ) → Tells (Err e) b
+pub tells_left : (q : Told) (b : ℕ) → is_taken q ≡ false → Tells q b
 unfolding Tells
-tells_left e b = tt
+tells_left q b e = λ h. absurd cc
 
 -- a block type that is read, as it is written
 again : (g : Option NumberType) → map_block written_index (block_named g) ≡ block_giving g
@@ -371,17 +381,17 @@ module _ {A : Type 0} (v : Stacks A) (C : Context UnpackedIndex) (b : ℕ) (byte
   performs_one None e f g p = cc
   performs_one (Some i) e f g p = rw (f, is_plain b behind i (nat_lt b 0xfb) refl g, g) (ap (λ o. o >>= λ t. Some (t, i.1)) (stepped (map_instruction written_index i.0) e) ∙ p)
 
-  pub is_taken : (x : Told) → v.is_open ≡ true → bytes ≡ b ∷ behind → Fused (Ok x) (performed_from v C b behind) old new rest → step_at (world C) (around v C) (state_of v) bytes ≡ Some (new, rest)
-  unfolding Fused performed_from
-  is_taken x e f p = performs_one (plain_from written b behind) e f refl p
+  pub step_taken : (x : Told) → v.is_open ≡ true → bytes ≡ b ∷ behind → is_taken x ≡ true → FusedAs x (performed_from v C b behind) old new rest → step_at (world C) (around v C) (state_of v) bytes ≡ Some (new, rest)
+  unfolding FusedAs performed_from
+  step_taken x e f h p = performs_one (plain_from written b behind) e f refl (p.0 h)
 
 -- the first byte of the bytes that are read
-pub is_told : (t : Told) (b : ℕ) (bytes behind : List ℕ) → bytes ≡ b ∷ behind → Tells (Ok t) b → told_at bytes ≡ Some t
+pub is_told : (t : Told) (b : ℕ) (bytes behind : List ℕ) → bytes ≡ b ∷ behind → is_taken t ≡ true → Tells t b → told_at bytes ≡ Some t
 unfolding Tells told_at
-is_told t b bytes behind e h = rw e h
+is_told t b bytes behind e h p = rw e (p h)
 
-pub not_taken : (y : NotTaken) (o : Option (State UnpackedIndex × List ℕ)) (old new : State UnpackedIndex) (rest : List ℕ) → Fused {X = Told} (Err y) o old new rest → new ≡ old
-unfolding Fused
-not_taken y o old new rest p = p
+pub step_left : (t : Told) (o : Option (State UnpackedIndex × List ℕ)) (old new : State UnpackedIndex) (rest : List ℕ) → is_taken t ≡ false → FusedAs t o old new rest → new ≡ old
+unfolding FusedAs
+step_left t o old new rest e p = p.1 e
 
-pub ruleset steps = (is_taken, is_told, not_taken)
+pub ruleset steps = (step_taken, is_told, step_left)

@@ -18,6 +18,8 @@ use Rattle.wasm_typing_fast.specs.WasmTypingControl.WasmTypingChecks.WasmTypingS
 use Rattle.wasm_typing_fast.specs.WasmTypingControl.WasmTypingChecks.WasmTypingStacks.declared.stacks.Stacks.{Stacks}
 use Rattle.wasm_typing_fast.specs.WasmTypingControl.WasmTypingChecks.Steps.{acted}
 use Rattle.wasm_typing_fast.specs.WasmTypingControl.declared.not_taken.NotTaken.{NotTaken}
+use Rattle.wasm_typing_steps.specs.declared.told.Told.{Told}
+use Rattle.wasm_typing_steps.specs.ToldSteps.{OnTaken, OnLeft}
 
 -- the step of an instruction that was read, and the bytes behind it
 abbrev pub step_read : World UnpackedIndex → Surroundings UnpackedIndex → State UnpackedIndex → Option (Instruction UnpackedIndex × List ℕ) → Option (State UnpackedIndex × List ℕ)
@@ -39,10 +41,17 @@ performed_from v C b bytes = performed v C (plain_from written b bytes)
 
 -- a fast step that was read: where it is taken the machine takes it to the same state, with the same bytes behind; where it isn't
 -- nothing changed
-unfoldable pub Fused : {X : Type 0} → Result X NotTaken → Option (State UnpackedIndex × List ℕ) → State UnpackedIndex → State UnpackedIndex → List ℕ → Type 0
+unfoldable pub Fused : Result (Unit {0}) NotTaken → Option (State UnpackedIndex × List ℕ) → State UnpackedIndex → State UnpackedIndex → List ℕ → Type 0
 Fused (Ok x) o old new bytes = o ≡ Some (new, bytes)
 Fused (Err e) o old new bytes = new ≡ old
 
+-- the same of a step that is told
+unfoldable pub FusedAs : Told → Option (State UnpackedIndex × List ℕ) → State UnpackedIndex → State UnpackedIndex → List ℕ → Type 0
+FusedAs t o old new bytes = OnTaken t (o ≡ Some (new, bytes)) × OnLeft t (new ≡ old)
+
 -- the same of the instruction of an opcode below fb, from where a reader stands and from the state of some stacks
-abbrev pub Fuses : {X A : Type 0} → Result X NotTaken → Context UnpackedIndex → ℕ → BinaryReader → Stacks A → BinaryReader → Stacks A → Type 0
+abbrev pub Fuses : {A : Type 0} → Result (Unit {0}) NotTaken → Context UnpackedIndex → ℕ → BinaryReader → Stacks A → BinaryReader → Stacks A → Type 0
 Fuses r C b from v to w = Fused r (performed_from v C b (rest from)) (state_of v) (state_of w) (rest to)
+
+abbrev pub FusesAs : {A : Type 0} → Told → Context UnpackedIndex → ℕ → BinaryReader → Stacks A → BinaryReader → Stacks A → Type 0
+FusesAs t C b from v to w = FusedAs t (performed_from v C b (rest from)) (state_of v) (state_of w) (rest to)

@@ -1,13 +1,13 @@
 //! Steps from bytes.
 
-ghost use Rattle.std.specs.Prelude.{◌≡◌, ◌≤◌, ◌<◌, ◌||◌, Some, true, false, not, is_ok, IfErr, IfOk, OnOk, OnErr};
+ghost use Rattle.std.specs.Prelude.{◌≡◌, ◌≤◌, ◌<◌, ◌||◌, Some, true, false, not, is_ok, IfErr, OnOk, OnErr};
 ghost use Rattle.wasm_readers.specs.WrittenIndices.{written};
 ghost use Rattle.wasm_readers.specs.WasmReadersBytes.Reader.{SameInput, position_in, place_of_next, rest};
 ghost use Rattle.wasm_operators.specs.Instructions.{instruction_at};
 ghost use Rattle.wasm_typing_blocks.specs.WasmTypingChecks.WasmSpecRules.FeatureFlags.{features_of};
 ghost use Rattle.wasm_typing_blocks.specs.WasmTypingChecks.WasmSpecSteps.ServedInstructions.{served};
 ghost use Rattle.wasm_typing_blocks.specs.WasmTypingChecks.WasmTypingStacks.BodyStacks.{state_of, Kept};
-ghost use Rattle.wasm_typing_steps.specs.ToldSteps.{told_at};
+ghost use Rattle.wasm_typing_steps.specs.ToldSteps.{OnLeft, OnTaken, told_at};
 ghost use Rattle.wasm_typing_validator.specs.BodyTyping.{typed_state};
 ghost use Rattle.wasm_typing_validator.specs.TypedInstructions.{StandsIn};
 ghost use Rattle.wasm_typing_validator.specs.StepsFromBytes.{ReadsStep, stepped};
@@ -24,7 +24,7 @@ use wasm_typing_blocks::typing_checks::OperatorError;
 use wasm_typing_blocks::typing_stacks::Stacks;
 use wasm_typing_blocks::validator_resources::WasmModuleResources;
 use wasm_typing_steps::typing_numbers::constant;
-use wasm_typing_steps::{NotTaken, Told, fast_step, is_seldom, next_float, next_seldom, told_step};
+use wasm_typing_steps::{NotTaken, Told, is_seldom, next_float, next_seldom, told_step};
 
 /// Reads the next operator and takes its step, where it is one that compilers write less often. Where
 /// that isn't done the reader may stand further on.
@@ -152,38 +152,34 @@ impl<A: Allocator> OperatorValidator<A> {
         ensures same { Kept self.old.stacks self.new.stacks }
         ensures failed { self.new.failed ≡ false }
     {
-        match fast_step(reader, &mut self.stacks, resources) {
-            Ok(()) => Ok(()),
-            Err(NotTaken::Left) => match step_otherwise(reader, &mut self.stacks, resources) {
+        match told_step(reader, &mut self.stacks, resources) {
+            Told::Left => match step_otherwise(reader, &mut self.stacks, resources) {
                 Ok(()) => Ok(()),
                 Err(error) => Err(error),
             },
-            Err(NotTaken::OutOfMemory) => Err(NotTaken::OutOfMemory),
+            Told::NoMemory => Err(NotTaken::OutOfMemory),
+            _ => Ok(()),
         }
     }
 
     /// As [`OperatorValidator::fast_op`] of the most frequent operators alone, and tells what each does
-    /// to blocks and labels.
-    ///
-    /// # Errors
-    ///
-    /// As [`OperatorValidator::frequent_op`].
+    /// to blocks and labels, or that none was taken.
     #[inline(always)]
     pub fn told_op<'a, T: WasmModuleResources>(
         &mut self,
         resources: &T,
         reader: &mut BinaryReader<'a>,
-    ) -> Result<Told, NotTaken>
+    ) -> Told
         requires { self.old.failed ≡ false }
-        ensures took { OnOk result (stepped (T.context resources.now) self.old.stacks reader.old
+        ensures took { OnTaken result (stepped (T.context resources.now) self.old.stacks reader.old
             ≡ Some (typed_state self.new, rest reader.new)) }
-        ensures unread { OnErr result (reader.new ≡ reader.old) }
-        ensures left { OnErr result (typed_state self.new ≡ typed_state self.old) }
+        ensures unread { OnLeft result (reader.new ≡ reader.old) }
+        ensures left { OnLeft result (typed_state self.new ≡ typed_state self.old) }
         ensures input { SameInput reader.old reader.new }
-        ensures further { OnOk result (position_in reader.old < position_in reader.new) }
+        ensures further { OnTaken result (position_in reader.old < position_in reader.new) }
         ensures same { Kept self.old.stacks self.new.stacks }
         ensures failed { self.new.failed ≡ false }
-        ensures told { IfOk result (λ t. told_at (rest reader.old) ≡ Some t) }
+        ensures told { OnTaken result (told_at (rest reader.old) ≡ Some result) }
     {
         told_step(reader, &mut self.stacks, resources)
     }

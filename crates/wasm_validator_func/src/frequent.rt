@@ -1,10 +1,10 @@
 //! Operators as they stand in bytes, one by one and fast.
 
-ghost use Rattle.std.specs.Prelude.{◌≡◌, ◌<◌, Some, true, false, is_ok, length, IfOk, OnOk, OnErr};
+ghost use Rattle.std.specs.Prelude.{◌≡◌, ◌<◌, Some, true, false, is_ok, length, OnOk, OnErr};
 ghost use Rattle.wasm_readers_bytes.specs.Reader.{SameInput, position_in, rest};
 ghost use Rattle.wasm_spec_steps.specs.Steps.{is_finished};
 ghost use Rattle.wasm_typing_validator.specs.WasmTypingStacks.BodyStacks.{Kept};
-ghost use Rattle.wasm_typing_validator.specs.WasmTypingSteps.ToldSteps.{told_at};
+ghost use Rattle.wasm_typing_validator.specs.WasmTypingSteps.ToldSteps.{OnLeft, OnTaken, told_at};
 ghost use Rattle.wasm_typing_validator.specs.BodyTyping.{typed_state};
 ghost use Rattle.wasm_typing_validator.specs.StepsFromBytes.{stepped};
 
@@ -71,27 +71,23 @@ impl<T: WasmModuleResources, A: Allocator> FuncValidator<T, A> {
     }
 
     /// As [`FuncValidator::fast_op`] of the most frequent operators alone, and tells what each does to
-    /// blocks and labels.
-    ///
-    /// # Errors
-    ///
-    /// As [`FuncValidator::frequent_op`].
+    /// blocks and labels, or that none was taken.
     #[inline(always)]
-    pub fn told_op<'a>(&mut self, reader: &mut BinaryReader<'a>) -> Result<Told, NotTaken>
+    pub fn told_op<'a>(&mut self, reader: &mut BinaryReader<'a>) -> Told
         requires { self.old.validator.failed ≡ false }
-        ensures took { OnOk result (stepped (T.context self.old.resources)
+        ensures took { OnTaken result (stepped (T.context self.old.resources)
             self.old.validator.stacks reader.old
             ≡ Some (typed_state self.new.validator, rest reader.new)) }
-        ensures unread { OnErr result (reader.new ≡ reader.old) }
-        ensures left { OnErr result (typed_state self.new.validator
+        ensures unread { OnLeft result (reader.new ≡ reader.old) }
+        ensures left { OnLeft result (typed_state self.new.validator
             ≡ typed_state self.old.validator) }
         ensures input { SameInput reader.old reader.new }
-        ensures further { OnOk result (position_in reader.old < position_in reader.new) }
+        ensures further { OnTaken result (position_in reader.old < position_in reader.new) }
         ensures kept { Kept self.old.validator.stacks self.new.validator.stacks }
         ensures same { (self.new.resources ≡ self.old.resources)
             × (self.new.index ≡ self.old.index) }
         ensures failed { self.new.validator.failed ≡ false }
-        ensures told { IfOk result (λ t. told_at (rest reader.old) ≡ Some t) }
+        ensures told { OnTaken result (told_at (rest reader.old) ≡ Some result) }
     {
         self.validator.told_op(&self.resources, reader)
     }

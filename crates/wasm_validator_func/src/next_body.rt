@@ -19,6 +19,7 @@ impl<T: WasmModuleResources + Drop, A: Allocator> FuncValidator<T, A> {
     ) -> FuncValidator<T, A>
         ensures resources { result.resources ≡ resources }
         ensures failed { result.validator.failed ≡ true }
+        ensures index { result.index ≡ 0 }
     {
         let mut validator = allocations.0.validator;
         validator.fail();
