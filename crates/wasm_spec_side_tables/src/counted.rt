@@ -82,7 +82,9 @@ impl<T: Copy + Drop, A: Allocator> Counted<T, A> {
             self.count += 1;
             return Ok(());
         }
-        self.grow(item)
+        // A copy is lent, so that the item itself can be kept in registers.
+        let copy = item;
+        self.grow(copy)
     }
 
     /// Puts an item twice behind those of a list without two free places.
@@ -115,7 +117,8 @@ impl<T: Copy + Drop, A: Allocator> Counted<T, A> {
             self.count = count + 2;
             return Ok(());
         }
-        self.grow_twice(item)
+        let copy = item;
+        self.grow_twice(copy)
     }
 
     /// Puts an item into the place of another, if there is one at this index.

@@ -8,6 +8,7 @@ use crate::entry::{Entry, Place};
 use wasm_operators::Catch;
 
 /// A number, if it has 32 bits.
+#[inline(always)]
 pub fn narrow(n: usize) -> Option<u32>
     ensures { IfSome result (λ m. m ≡ n) }
 {
@@ -19,6 +20,7 @@ pub fn narrow(n: usize) -> Option<u32>
 }
 
 /// An offset, if it has 32 bits.
+#[inline(always)]
 pub fn narrow_offset(n: u64) -> Option<u32>
     ensures { IfSome result (λ m. m ≡ n) }
 {
@@ -30,6 +32,7 @@ pub fn narrow_offset(n: u64) -> Option<u32>
 }
 
 /// An entry whose target is the number of its place.
+#[inline(always)]
 pub fn make_entry(at: u32, number: u32, kept: usize, dropped: usize) -> Option<Entry>
     ensures { IfSome result (λ e. e ≡ record {
       at = at;
@@ -63,6 +66,7 @@ pub fn label_of(clause: Catch) -> u32
 }
 
 /// An entry with the place of its number.
+#[inline(always)]
 pub fn resolve(places: &[Place], entry: Entry) -> Option<Entry>
     ensures { result ≡ resolved places.now entry }
 {

@@ -1,6 +1,7 @@
 -- What a fast step tells of an operator is what its first byte says.
 use Rattle.std.proofs.Common.{◌≡◌, ◌≤◌, ◌<◌, ◌==◌, refl, subst, ℕ, zero, suc, ◌+◌, ◌-◌, Bool, true, false, Option, Some, None, arith, if◌then◌else◌, nat_lt}
 use Rattle.std.proofs.lemmas.Bool.Decides.{nat_tests, Decides-eqb}
+use Rattle.std.specs.Prelude.{⊤}
 use Rattle.wasm_typing_validator.specs.WasmTypingSteps.ToldSteps.{told_of}
 use Rattle.wasm_typing_validator.specs.WasmTypingSteps.declared.told.Told.{Told}
 use Rattle.wasm_typing_validator.specs.WasmTypingSteps.declared.told.Told.TheVariants as told
@@ -17,6 +18,8 @@ Said told.OpensThen b = b ≡ 0x04
 Said told.Closes b = b ≡ 0x0b
 Said told.Branches b = b ≡ 0x0c
 Said told.BranchesPerhaps b = b ≡ 0x0d
+Said told.Left b = ⊤
+Said told.NoMemory b = ⊤
 
 is_below : (b m : ℕ) → nat_lt b m ≡ true → b < m
 is_below b m e = grind (arith, nat_tests)

@@ -248,6 +248,7 @@ impl<A: Allocator> SideTable<A> {
             Told::Closes => self.close_behind(ahead.original_position()),
             Told::Branches => self.note_branch(validator, start, ahead, 0, count),
             Told::BranchesPerhaps => self.note_branch(validator, start, ahead, 1, count),
+            Told::Left | Told::NoMemory => false,
         }
     }
 }

@@ -27,6 +27,7 @@ use Rattle.wasm_validator_side_notes.specs.TableViews.{shown}
 use Rattle.wasm_validator_side_notes.specs.Tables.{HasRead, IsTableOf}
 use Rattle.wasm_validator_side_table.specs.declared.error.SideTableError.{SideTableError}
 use Rattle.wasm_validator_side_table.specs.declared.error.SideTableError.TheVariants.{TooLarge}
+use Rattle.wasm_validator_side_table.specs.declared.error.SideTableError.TheVariants as no_table
 use Rattle.wasm_validator_side_notes.specs.declared.table.SideTable.{SideTable}
 
 table_is :
@@ -96,6 +97,12 @@ makes_none X P r OutOfMemory h = tt
 
 pub makes_told : (X : Type 0) (P : Type 0) (r : BinaryReader) (e : Error) (x : SideTableError) → x ≡ told e → Refuses P e → Makes {X = X} P r (Err x)
 makes_told X P r e x same h = subst (λ (y : SideTableError). Makes {X = X} P r (Err y)) (sym same) (makes_none X P r e h)
+
+-- where there is no table what else an answer may hold doesn't matter
+pub makes_as : (X Y : Type 0) (P : Type 0) (r : BinaryReader) (x : SideTableError) → Makes {X = X} P r (Err x) → Makes {X = Y} P r (Err x)
+makes_as X Y P r (no_table.Refused f) h = h
+makes_as X Y P r no_table.OutOfMemory h = h
+makes_as X Y P r no_table.TooLarge h = h
 
 pub stands_so : (r : BinaryReader) (e : Error) → StandsInOrFirst r e → StandsSo r (told e)
 stands_so r (Refused f) h = h

@@ -137,16 +137,14 @@ fn read_all<'a, T: WasmModuleResources, A: Allocator, B: Allocator>(
     let mut height = 0usize;
     'operators: while !validator.is_finished() {
         let start = ahead;
-        match validator.told_op(&mut ahead) {
-            Ok(told) => {
-                if !table.note_told(validator, told, start, ahead, count) {
-                    return Err(Error::OutOfMemory);
-                }
-                count = validator.len_operands();
-                height = height.max(count);
-                continue;
+        let told = validator.told_op(&mut ahead);
+        if told.is_taken() {
+            if !table.note_told(validator, told, start, ahead, count) {
+                return Err(Error::OutOfMemory);
             }
-            Err(_) => {}
+            count = validator.len_operands();
+            height = height.max(count);
+            continue;
         }
         // The reader itself is not lent, so that it can be kept in registers.
         let mut behind = ahead;
@@ -218,16 +216,9 @@ pub fn is_too_large(body: &FunctionBody<'_>) -> bool
     MOST < body.get_binary_reader().range().end
 }
 
-/// Validates the body of another function in place of the one that this validator validated before,
-/// and makes its side table, both in memory that was used before. The offset behind it must be one
-/// that an entry may have ([`is_too_large`]).
-///
-/// # Errors
-///
-/// Refused exactly where [`FuncToValidate::validate`] refuses the body, and where memory is. The
-/// table is of no use then. The validator may begin another body all the same.
+/// Begins a body whose end is at an offset that an entry may have, validates it, and makes its table.
 #[tactic(auto, using(crate::proofs::WholeTables::answers))]
-pub fn validate_next_with_side_table<T: WasmModuleResources + Drop, A: Allocator, B: Allocator>(
+fn make_next<T: WasmModuleResources + Drop, A: Allocator, B: Allocator>(
     validator: &mut FuncValidator<T, B>,
     function: FuncToValidate<T>,
     body: &FunctionBody<'_>,
@@ -263,7 +254,41 @@ pub fn validate_next_with_side_table<T: WasmModuleResources + Drop, A: Allocator
     }
 }
 
-/// Validates a body, and makes its table where the offset behind it is one that an entry may have.
+/// Validates the body of another function in place of the one that this validator validated before,
+/// and makes its side table, both in memory that was used before. The offset behind it must be one
+/// that an entry may have ([`is_too_large`]).
+///
+/// # Errors
+///
+/// Refused exactly where [`FuncToValidate::validate`] refuses the body, and where memory is. The
+/// table is empty then. The validator may begin another body all the same.
+pub fn validate_next_with_side_table<T: WasmModuleResources + Drop, A: Allocator, B: Allocator>(
+    validator: &mut FuncValidator<T, B>,
+    function: FuncToValidate<T>,
+    body: &FunctionBody<'_>,
+    table: &mut SideTable<A>,
+) -> Result<(), SideTableError>
+    requires few { end_of (body_reader body.now) < 2 ^ 32 }
+    ensures table { OnOk result (IsTableOf (features_of function.features)
+        (T.context function.resources) function.ty (place_of_next (body_reader body.now))
+        (body_of body.now) table.new) }
+    ensures decides { Makes (IsFunctionBody (features_of function.features)
+        (T.context function.resources) function.ty (body_of body.now))
+        (body_reader body.now) result }
+    ensures place { IfErr result (StandsSo (body_reader body.now)) }
+    ensures empty { OnErr result (IsEmptyTable table.new) }
+{
+    match make_next(validator, function, body, table) {
+        Ok(()) => Ok(()),
+        Err(error) => {
+            table.clear();
+            Err(error)
+        }
+    }
+}
+
+/// Validates a body, and makes its table where the offset behind it is one that an entry may have, by
+/// look-ups that are lent.
 #[tactic(auto, using(crate::proofs::WholeTables::answers))]
 fn make<T: WasmModuleResources + Drop, A: Allocator, B: Allocator>(
     function: FuncToValidate<T>,
@@ -279,37 +304,22 @@ fn make<T: WasmModuleResources + Drop, A: Allocator, B: Allocator>(
         (body_reader body.now) result }
     ensures place { IfErr result (StandsSo (body_reader body.now)) }
 {
-    if is_too_large(body) {
-        // By look-ups that are lent, so that the steps of the loop below have no other caller, and are
-        // inlined there.
-        let lent = FuncToValidate {
-            resources: &function.resources,
-            index: function.index,
-            ty: function.ty,
-            features: function.features,
-        };
-        match lent.validate(body, allocations) {
-            Ok(_memory) => return Err(SideTableError::TooLarge),
-            Err(error) => return Err(of_validator(error)),
-        }
-    }
-    match table.begin() {
-        Ok(()) => {}
-        Err(_) => return Err(SideTableError::OutOfMemory),
-    }
-    let mut validator = match function.into_validator(allocations) {
-        Ok(validator) => validator,
-        Err(error) => return Err(of_validator(error)),
+    let lent = FuncToValidate {
+        resources: &function.resources,
+        index: function.index,
+        ty: function.ty,
+        features: function.features,
     };
-    match read_body(table, &mut validator, body) {
-        Ok(()) => {}
-        Err(error) => return Err(of_validator(error)),
+    if is_too_large(body) {
+        return match lent.validate(body, allocations) {
+            Ok(_memory) => Err(SideTableError::TooLarge),
+            Err(error) => Err(of_validator(error)),
+        };
     }
-    table.set_locals(validator.len_locals());
-    if table.finish() {
-        Ok(validator.into_allocations())
-    } else {
-        Err(SideTableError::OutOfMemory)
+    let mut validator = FuncValidator::without_body(&function.resources, allocations);
+    match make_next(&mut validator, lent, body, table) {
+        Ok(()) => Ok(validator.into_allocations()),
+        Err(error) => Err(error),
     }
 }
 
