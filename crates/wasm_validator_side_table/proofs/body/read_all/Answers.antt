@@ -1,4 +1,4 @@
-use Rattle.std.proofs.Common.{◌≡◌, ◌<◌, ◌∙◌, sym, ap, subst, refl, max, length, Some, Err, false, arith, rules, tests}
+use Rattle.std.proofs.Common.{◌≡◌, ◌<◌, ◌∙◌, sym, ap, subst, refl, max, length, Some, Err, true, false, arith, rules, tests}
 use Rattle.wasm_readers.specs.WasmReadersBytes.Reader.{SameInput, position_in, place_of_next, rest}
 use Rattle.wasm_validator_side_notes.specs.WasmTypingValidator.WasmSpecSteps.Steps.{is_finished}
 use Rattle.wasm_readers_types.specs.WasmReadersValues.declared.indices.UnpackedIndex.{UnpackedIndex}
@@ -7,6 +7,7 @@ use Rattle.wasm_validator_resources.specs.Answers.{world}
 use Rattle.wasm_validator_side_notes.specs.WasmTypingValidator.BodyTyping.{typed_state}
 use Rattle.wasm_validator_side_notes.specs.WasmTypingValidator.TypedInstructions.{within}
 use Rattle.wasm_validator_side_notes.specs.WasmTypingValidator.WasmTypingStacks.BodyStacks.{Kept}
+use Rattle.wasm_validator_side_notes.specs.WasmTypingValidator.WasmTypingSteps.ToldSteps.{is_taken}
 use Rattle.wasm_validator_side_notes.specs.WasmTypingValidator.StepsFromBytes.{ReadsStep, stepped}
 use Rattle.wasm_validator_side_notes.proofs.WasmTypingValidator.CodeSurroundings.{kept_on, same_kept}
 use Rattle.wasm_validator_side_notes.specs.WasmValidatorFunc.Bodies.{instructions_from}
@@ -34,28 +35,29 @@ operators-init g c =
       so_far = (length (rest c.args.reader.now), omega arith, all_of (world C) (within v C) (typed_state v) (rest c.args.reader.now));
     }
 
-pub operators-preserved-in-Ok : goal.operators-preserved-in-Ok
-operators-preserved-in-Ok g c =
+pub operators-preserved-then-is_taken : goal.operators-preserved-then-is_taken
+operators-preserved-then-is_taken g c =
     let C = g.T.WasmModuleResources.context c.args.validator.now.resources in
     let D = g.T.WasmModuleResources.context c.operators.validator.resources in
-    let E = g.T.WasmModuleResources.context c.told_op.new.self.resources in
+    let E = g.T.WasmModuleResources.context c.told_op-told.new.self.resources in
     let v = c.args.validator.now.validator in
     let w = c.operators.validator.validator in
-    let u = c.told_op.new.self.validator in
+    let u = c.told_op-told.new.self.validator in
     let old = c.operators.ahead in
-    let new = c.told_op.new.reader in
+    let new = c.told_op-told.new.reader in
     let T = shown c.operators.table in
     let U = shown c.note_told.new.self in
     let all = instructions_from (world C) (within v C) (typed_state v) (rest c.args.reader.now) in
     let far = c.operators.invariant.so_far in
     let going : is_finished (typed_state w) ≡ false = cc in
     let there : D ≡ C = ap (λ r. g.T.WasmModuleResources.context r) c.operators.invariant.resources in
-    let same : c.told_op.new.self.resources ≡ c.args.validator.now.resources = search rules in
+    let same : c.told_op-told.new.self.resources ≡ c.args.validator.now.resources = search rules in
     let behind : E ≡ C = ap (λ r. g.T.WasmModuleResources.context r) same in
-    let further : position_in old < position_in new = search (rules, tests) in
+    let taken : is_taken c.told_op-told.result ≡ true = sym c.is_taken.ensures ∙ c.if-is_taken.true in
+    let further : position_in old < position_in new = c.told_op-told.ensures.further taken in
     let before = c.operators.invariant.onward in
     let inside : SameInput old new = search rules in
-    let took : stepped D w.stacks old ≡ Some (typed_state u, rest new) = c.in-Ok.ensures.took in
+    let took : stepped D w.stacks old ≡ Some (typed_state u, rest new) = c.told_op-told.ensures.took taken in
     let step : stepped C w.stacks old ≡ Some (typed_state u, rest new) = subst (λ (X : Context UnpackedIndex). stepped X w.stacks old ≡ Some (typed_state u, rest new)) there took in
     let led : LeadsOn E u old new c.operators.count T U = search (rules, tests) in
     let leads : LeadsOn C u old new c.operators.count T U = subst (λ (X : Context UnpackedIndex). LeadsOn X u old new c.operators.count T U) behind led in
@@ -76,13 +78,13 @@ operators-preserved-in-Ok g c =
 pub operators-preserved : goal.operators-preserved
 operators-preserved g c =
     let C = g.T.WasmModuleResources.context c.args.validator.now.resources in
-    let D = g.T.WasmModuleResources.context c.told_op.new.self.resources in
+    let D = g.T.WasmModuleResources.context c.told_op-told.new.self.resources in
     let v = c.args.validator.now.validator in
     let w = c.operators.validator.validator in
-    let x = c.told_op.new.self.validator in
+    let x = c.told_op-told.new.self.validator in
     let u = c.read_left.new.validator.validator in
     let old = c.operators.ahead in
-    let middle = c.told_op.new.reader in
+    let middle = c.told_op-told.new.reader in
     let next = c.read_left.new.reader in
     let new = c.go_on_from.new.self in
     let T = shown c.operators.table in
@@ -90,11 +92,12 @@ operators-preserved g c =
     let all = instructions_from (world C) (within v C) (typed_state v) (rest c.args.reader.now) in
     let far = c.operators.invariant.so_far in
     let going : is_finished (typed_state w) ≡ false = cc in
-    let same : c.told_op.new.self.resources ≡ c.args.validator.now.resources = search rules in
+    let same : c.told_op-told.new.self.resources ≡ c.args.validator.now.resources = search rules in
     let there : D ≡ C = ap (λ r. g.T.WasmModuleResources.context r) same in
     let kept : Kept w.stacks x.stacks = search rules in
-    let left : typed_state x ≡ typed_state w = search (rules, tests) in
-    let unread : middle ≡ old = search (rules, tests) in
+    let untaken : is_taken c.told_op-told.result ≡ false = sym c.is_taken.ensures ∙ c.if-is_taken.false in
+    let left : typed_state x ≡ typed_state w = c.told_op-told.ensures.left untaken in
+    let unread : middle ≡ old = c.told_op-told.ensures.unread untaken in
     let first : SameInput middle next = search rules in
     let second : SameInput middle new = search rules in
     let inside : SameInput old new = search rules in
@@ -103,12 +106,12 @@ operators-preserved g c =
     let went : position_in middle < position_in next = search rules in
     let further : position_in old < position_in new = omega (arith, went, position, ap position_in unread) in
     let before = c.operators.invariant.onward in
-    let there_first : Advances (world D) (within x D) (typed_state x) T (place_of_next middle) (rest middle) (typed_state u) U (place_of_next next) (rest next) = c.in-Ok-read_left.ensures.advances in
+    let there_first : Advances (world D) (within x D) (typed_state x) T (place_of_next middle) (rest middle) (typed_state u) U (place_of_next next) (rest next) = c.in-Ok.ensures.advances in
     let from_old : Advances (world C) (within w C) (typed_state w) T (place_of_next old) (rest old) (typed_state u) U (place_of_next next) (rest next) =
     advances_from C D w x old middle T U (typed_state u) (place_of_next next) (rest next) there kept left unread there_first in
     let advances : Advances (world C) (within w C) (typed_state w) T (place_of_next old) (rest old) (typed_state u) U (place_of_next new) (rest new) =
     advances_on C w u T U (place_of_next old) (rest old) next new (place_stays middle next new first second position) more from_old in
-    let took : stepped D x.stacks middle ≡ Some (typed_state u, rest next) = c.in-Ok-read_left.ensures.took in
+    let took : stepped D x.stacks middle ≡ Some (typed_state u, rest next) = c.in-Ok.ensures.took in
     let step : stepped C w.stacks old ≡ Some (typed_state u, rest new) = sym (stepped_same C D w x old middle there kept left unread) ∙ took ∙ ap (λ xs. Some (typed_state u, xs)) (sym more) in
     let counted : c.len_operands-count-in-operators.result ≡ length (typed_state u).operands = search rules in
     let high : c.max-height-in-operators.result ≡ max c.operators.height c.len_operands-count-in-operators.result = search rules in
@@ -123,26 +126,27 @@ operators-preserved g c =
       so_far = far_more C v w old c.operators.invariant.kept far.0 all going far.2 u new far.1 inside further step;
     }
 
-pub returns-in-Err-read_left-clause-took : goal.returns-in-Err-read_left-clause-took
-returns-in-Err-read_left-clause-took g c =
+pub returns-in-Err-clause-took : goal.returns-in-Err-clause-took
+returns-in-Err-clause-took g c =
     let C = g.T.WasmModuleResources.context c.args.validator.now.resources in
-    let D = g.T.WasmModuleResources.context c.told_op.new.self.resources in
+    let D = g.T.WasmModuleResources.context c.told_op-told.new.self.resources in
     let v = c.args.validator.now.validator in
     let w = c.operators.validator.validator in
-    let x = c.told_op.new.self.validator in
+    let x = c.told_op-told.new.self.validator in
     let u = c.read_left.new.validator.validator in
     let old = c.operators.ahead in
-    let middle = c.told_op.new.reader in
+    let middle = c.told_op-told.new.reader in
     let next = c.read_left.new.reader in
-    let e = c.in-Err-read_left.error in
+    let e = c.in-Err.error in
     let all = instructions_from (world C) (within v C) (typed_state v) (rest c.args.reader.now) in
     let far = c.operators.invariant.so_far in
     let going : is_finished (typed_state w) ≡ false = cc in
-    let same : c.told_op.new.self.resources ≡ c.args.validator.now.resources = search rules in
+    let same : c.told_op-told.new.self.resources ≡ c.args.validator.now.resources = search rules in
     let there : D ≡ C = ap (λ r. g.T.WasmModuleResources.context r) same in
     let kept : Kept w.stacks x.stacks = search rules in
-    let left : typed_state x ≡ typed_state w = search (rules, tests) in
-    let unread : middle ≡ old = search (rules, tests) in
+    let untaken : is_taken c.told_op-told.result ≡ false = sym c.is_taken.ensures ∙ c.if-is_taken.false in
+    let left : typed_state x ≡ typed_state w = c.told_op-told.ensures.left untaken in
+    let unread : middle ≡ old = c.told_op-told.ensures.unread untaken in
     let step : ReadsStep (Err e) (stepped C w.stacks old) (typed_state u) (rest next) =
-    subst (λ o. ReadsStep (Err e) o (typed_state u) (rest next)) (stepped_same C D w x old middle there kept left unread) c.in-Err-read_left.ensures.took in
+    subst (λ o. ReadsStep (Err e) o (typed_state u) (rest next)) (stepped_same C D w x old middle there kept left unread) c.in-Err.ensures.took in
     far_stopped C v w old c.operators.invariant.kept far.0 all going far.2 e (typed_state u) (typed_state u) (rest next) (rest c.args.reader.now) step
