@@ -18,8 +18,7 @@ Said told.OpensThen b = b ≡ 0x04
 Said told.Closes b = b ≡ 0x0b
 Said told.Branches b = b ≡ 0x0c
 Said told.BranchesPerhaps b = b ≡ 0x0d
-Said told.Left b = ⊤
-Said told.NoMemory b = ⊤
+Said _ b = ⊤
 
 is_below : (b m : ℕ) → nat_lt b m ≡ true → b < m
 is_below b m e = grind (arith, nat_tests)

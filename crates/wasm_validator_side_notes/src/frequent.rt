@@ -137,8 +137,7 @@ impl<A: Allocator> SideTable<A> {
         }
     }
 
-    /// An `if` without parameters at the one offset opens its block behind the other. Says no where
-    /// memory is refused.
+    /// An `if` without parameters opens its block. Says no where memory is refused.
     #[inline(never)]
     fn open_then(&mut self, at: u64, behind: u64) -> bool
         ensures { result ≡ true → nested_in opens behind
