@@ -64,7 +64,9 @@ impl BlockWord {
     pub fn seen(self) -> Block
         ensures { block_seen result ≡ block_in self }
     {
-        if self.bits % 8 < 5 {
+        if self.bits == 6 {
+            Block::Empty
+        } else if self.bits % 8 < 5 {
             Block::Value(TypeWord { bits: self.bits })
         } else if self.bits % 8 == 7 {
             Block::Func((self.bits / 8) as u32)

@@ -177,12 +177,14 @@ impl<A: Allocator> Locals<A> {
     }
 
     /// Forgets which locals were set since, but for the first so many.
-    #[inline]
+    #[inline(always)]
     pub fn unset(&mut self, count: usize)
         ensures content { self.new.content ≡ self.old.content }
         ensures inits { self.new.inits ≡ drop (length self.old.inits - count) self.old.inits }
     {
-        self.marks.truncate(count);
+        if count < self.marks.len() {
+            self.marks.truncate(count);
+        }
     }
 
     /// Forgets the locals, and keeps the memory.
