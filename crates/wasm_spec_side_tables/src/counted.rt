@@ -1,7 +1,7 @@
 //! A list over a `Vec`. It counts its items itself, so that what gives one puts it into a place that
 //! is there already, and only a list that grows calls out.
 
-ghost use Rattle.std.specs.Prelude.{◌≡◌, ◌++◌, ◌∷◌, [], length, slice_set, OnOk, OnErr};
+ghost use Rattle.std.specs.Prelude.{◌≡◌, ◌++◌, ◌∷◌, [], true, false, length, slice_set, OnOk, OnErr};
 
 use std::alloc::{AllocError, Allocator, Global};
 use std::marker::Model;
@@ -70,16 +70,28 @@ impl<T: Copy + Drop, A: Allocator> Counted<T, A> {
         }
     }
 
-    /// Puts an item behind the others. Where memory is refused, all stays.
+    /// Puts an item behind the others where there is a place for it already, and says whether it did.
     #[inline(always)]
     #[tactic(auto, using(crate::proofs::CountedLists::pushes))]
-    pub fn push(&mut self, item: T) -> Result<(), AllocError>
-        ensures ok { OnOk result (self.new ≡ self.old ++ item ∷ []) }
-        ensures err { OnErr result (self.new ≡ self.old) }
+    pub fn put(&mut self, item: T) -> bool
+        ensures there { result ≡ true → self.new ≡ self.old ++ item ∷ [] }
+        ensures left { result ≡ false → self.new ≡ self.old }
     {
         if self.count < self.vec.len() {
             self.vec[self.count] = item;
             self.count += 1;
+            return true;
+        }
+        false
+    }
+
+    /// Puts an item behind the others. Where memory is refused, all stays.
+    #[inline(always)]
+    pub fn push(&mut self, item: T) -> Result<(), AllocError>
+        ensures ok { OnOk result (self.new ≡ self.old ++ item ∷ []) }
+        ensures err { OnErr result (self.new ≡ self.old) }
+    {
+        if self.put(item) {
             return Ok(());
         }
         // A copy is lent, so that the item itself can be kept in registers.
@@ -103,18 +115,31 @@ impl<T: Copy + Drop, A: Allocator> Counted<T, A> {
         Ok(())
     }
 
-    /// Puts an item twice behind the others. Where memory is refused, all stays.
+    /// Puts an item twice behind the others where there are two places for it already, and says
+    /// whether it did.
     #[inline(always)]
     #[tactic(auto, using(crate::proofs::CountedLists::pairs))]
-    pub fn push_twice(&mut self, item: T) -> Result<(), AllocError>
-        ensures ok { OnOk result (self.new ≡ self.old ++ item ∷ item ∷ []) }
-        ensures err { OnErr result (self.new ≡ self.old) }
+    pub fn put_twice(&mut self, item: T) -> bool
+        ensures there { result ≡ true → self.new ≡ self.old ++ item ∷ item ∷ [] }
+        ensures left { result ≡ false → self.new ≡ self.old }
     {
         let count = self.count;
         if 2 <= self.vec.len() - count {
             self.vec[count] = item;
             self.vec[count + 1] = item;
             self.count = count + 2;
+            return true;
+        }
+        false
+    }
+
+    /// Puts an item twice behind the others. Where memory is refused, all stays.
+    #[inline(always)]
+    pub fn push_twice(&mut self, item: T) -> Result<(), AllocError>
+        ensures ok { OnOk result (self.new ≡ self.old ++ item ∷ item ∷ []) }
+        ensures err { OnErr result (self.new ≡ self.old) }
+    {
+        if self.put_twice(item) {
             return Ok(());
         }
         let copy = item;

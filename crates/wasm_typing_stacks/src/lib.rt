@@ -4,7 +4,6 @@
 
 mod block_word;
 mod codes;
-mod copies;
 mod local_word;
 mod locals;
 mod marks;

@@ -85,19 +85,33 @@ impl<T: Copy + Drop, A: Allocator> Stack<T, A> {
         }
     }
 
-    /// Puts an item on top.
+    /// Puts an item on top where there is a place for it already, and says whether it did.
     #[inline(always)]
     #[tactic(auto, using(crate::proofs::ReversedLists::pushes))]
-    pub fn push(&mut self, item: T) -> Result<(), AllocError>
-        ensures ok { OnOk result (self.new ≡ item ∷ self.old) }
-        ensures err { OnErr result (self.new ≡ self.old) }
+    pub fn put(&mut self, item: T) -> bool
+        ensures there { result ≡ true → self.new ≡ item ∷ self.old }
+        ensures left { result ≡ false → self.new ≡ self.old }
     {
         if self.count < self.vec.len() {
             self.vec[self.count] = item;
             self.count += 1;
+            return true;
+        }
+        false
+    }
+
+    /// Puts an item on top.
+    #[inline(always)]
+    pub fn push(&mut self, item: T) -> Result<(), AllocError>
+        ensures ok { OnOk result (self.new ≡ item ∷ self.old) }
+        ensures err { OnErr result (self.new ≡ self.old) }
+    {
+        if self.put(item) {
             return Ok(());
         }
-        self.grow(item)
+        // A copy is lent, so that the item itself can be kept in registers.
+        let copy = item;
+        self.grow(copy)
     }
 
     /// Takes the top item.

@@ -1,10 +1,12 @@
 //! The stacks of a body.
 
+ghost use Rattle.std.specs.Prelude.{◌≡◌, IfOk};
+
 use crate::block_word::BlockWord;
 use crate::locals::Locals;
 use crate::stack::Stack;
 use crate::word::Word;
-use std::alloc::{Allocator, Global};
+use std::alloc::{AllocError, Allocator, Global};
 use wasm_operators_plain::readers_errors::WasmFeatures;
 use wasm_spec_steps::FrameKind;
 
@@ -43,5 +45,25 @@ impl<A: Allocator> Drop for Stacks<A> {
             outer: _,
             locals: _,
         } = self;
+    }
+}
+
+impl<A: Allocator + Copy> Stacks<A> {
+    /// The same operands, frames and locals, in memory of their own.
+    pub fn clone(&self) -> Result<Stacks<A>, AllocError>
+        ensures { IfOk result (λ copy. copy ≡ self.now) }
+    {
+        let operands = self.operands.clone()?;
+        let outer = self.outer.clone()?;
+        let locals = self.locals.clone()?;
+        Ok(Stacks {
+            features: self.features,
+            is_shared: self.is_shared,
+            operands,
+            is_open: self.is_open,
+            frame: self.frame,
+            outer,
+            locals,
+        })
     }
 }

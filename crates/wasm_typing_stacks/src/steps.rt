@@ -167,20 +167,7 @@ impl<A: Allocator> Stacks<A> {
         ensures err { OnErr result (state_of self.new ≡ state_of self.old) }
         ensures same { Kept self.old self.new }
     {
-        if self.is_open {
-            self.outer.push(self.frame)?;
-        } else {
-            self.outer.truncate(0);
-        }
-        self.is_open = true;
-        self.frame = Frame {
-            kind,
-            unreachable: false,
-            block,
-            height: self.operands.len(),
-            init_height: self.locals.count_set(),
-        };
-        Ok(())
+        self.open_below(kind, block, 0)
     }
 
     /// Opens a frame below so many operands, which stay. Where memory is refused, all stays.
