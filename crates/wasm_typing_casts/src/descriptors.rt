@@ -122,7 +122,7 @@ fn undescribed(heap: HeapType) -> OperatorFault {
 /// an unknown type, one that the features don't allow, an abstract one (`CastToAbstract`), one
 /// without a descriptor (`CastToUndescribed`), an operand that isn't the type's descriptor, and one
 /// below it of another hierarchy.
-#[tactic(auto, using(crate::proofs::Cited::acts, crate::proofs::HierarchyTops::tests, crate::proofs::DescriptorTypes::describes, crate::proofs::Cited::written))]
+#[tactic(auto, using(crate::proofs::Cited::acts, crate::proofs::HierarchyTops::tests, crate::proofs::Cited::describes, crate::proofs::Cited::written))]
 pub fn ref_cast_desc_eq<A: Allocator, T: WasmModuleResources>(
     stacks: &mut Stacks<A>,
     resources: &T,
