@@ -1,6 +1,6 @@
 //! What a step is to those who note blocks and branches.
 
-ghost use Rattle.std.specs.Prelude.{◌≡◌, false};
+ghost use Rattle.std.specs.Prelude.{◌≡◌, true, false};
 ghost use Rattle.wasm_typing_steps.specs.ToldSteps.{is_taken, left_for, told_as};
 
 use wasm_typing_fast::NotTaken;
@@ -30,6 +30,19 @@ pub enum Told {
 }
 
 impl Told {
+    /// Whether a step was taken that branches nowhere and leaves the blocks as they are. A loop over
+    /// operators asks this first, so that behind most steps nothing else is asked.
+    #[inline(always)]
+    pub fn is_quiet(self) -> bool
+        ensures quiet { result ≡ true → self ≡ Told.Quiet }
+        ensures otherwise { self ≡ Told.Quiet → result ≡ true }
+    {
+        match self {
+            Told::Quiet => true,
+            _ => false,
+        }
+    }
+
     /// Whether a step was taken.
     #[inline(always)]
     pub fn is_taken(self) -> bool
