@@ -1,5 +1,5 @@
 -- What labels count.
-use Rattle.std.proofs.Common.{◌≡◌, ℕ, List, length, Option, Some, None, slice_get, refl}
+use Rattle.std.proofs.Common.{◌≡◌, ℕ, List, length, Option, Some, None, slice_get, refl, sym}
 use Rattle.std.specs.Option.{option_map}
 use Rattle.wasm_typing_blocks.specs.WasmTypingChecks.WasmSpecRules.WasmSpec.Syntax.{Val}
 use Rattle.wasm_typing_blocks.specs.WasmTypingChecks.WasmSpecRules.Attempts.{◌>>=◌}
@@ -11,6 +11,7 @@ use Rattle.wasm_typing_blocks.specs.WasmTypingChecks.WasmSpecSteps.Machine as ma
 use Rattle.wasm_typing_blocks.specs.WasmTypingChecks.WasmSpecSteps.Machine.{Kind, block_kind, loop_kind, if_kind, else_kind, try_table_kind, legacy_try_kind, legacy_catch_kind, legacy_catch_all_kind}
 use Rattle.wasm_typing_blocks.specs.WasmTypingChecks.WasmSpecSteps.Meanings.{label_by}
 use Rattle.wasm_typing_steps.specs.WasmTypingControl.Blocks.{function_in, signature_in}
+use Rattle.wasm_typing_validator.specs.QueryResults.{height_over}
 
 -- this number of operands over that many
 abbrev over : ℕ → ℕ → ℕ × ℕ
@@ -54,6 +55,29 @@ module _ (C : Context UnpackedIndex) where
   pub no_label : (fs : List (machine.Frame UnpackedIndex)) (n : ℕ) → None ≡ slice_get fs n → None ≡ (slice_get fs n >>= frame_counted)
   no_label fs n e = rw (← e) refl
 
+module _ (C : Context UnpackedIndex) where
+  -- that of a block without types
+  pub empty_there : (fs : List (machine.Frame UnpackedIndex)) (n : ℕ) (x : machine.Frame UnpackedIndex) → Some x ≡ slice_get fs n → empty_block ≡ x.block → (slice_get fs n >>= frame_counted C) ≡ Some (over 0 x.height)
+  empty_there fs n x e f = sym (label_there C fs n x (Some (over 0 x.height)) e (of_empty C x.kind x.height x.block f))
+
+-- the height, where a block has no types
+pub over_empty : (h : ℕ) (b : Block UnpackedIndex) → empty_block ≡ b → Some h ≡ height_over b h
+over_empty h b e = rw (← e) refl
+
+pub over_value : (h : ℕ) (b : Block UnpackedIndex) (v : Val UnpackedIndex) → value_block v ≡ b → None ≡ height_over b h
+over_value h b v e = rw (← e) refl
+
+pub over_func : (h : ℕ) (b : Block UnpackedIndex) (n : ℕ) → func_block n ≡ b → None ≡ height_over b h
+over_func h b n e = rw (← e) refl
+
+pub over_there : (fs : List (machine.Frame UnpackedIndex)) (n : ℕ) (x : machine.Frame UnpackedIndex) (o : Option ℕ) → Some x ≡ slice_get fs n → o ≡ height_over x.block x.height → o ≡ (slice_get fs n >>= λ y. height_over y.block y.height)
+over_there fs n x o e f = rw (← e) f
+
+pub over_none : (fs : List (machine.Frame UnpackedIndex)) (n : ℕ) → None ≡ slice_get fs n → None ≡ (slice_get fs n >>= λ y. height_over y.block y.height)
+over_none fs n e = rw (← e) refl
+
 pub ruleset counts = (of_empty, of_loop, of_value, of_func)
 
 pub ruleset labels = (label_there, no_label)
+
+pub ruleset empties = (empty_there, over_empty, over_value, over_func, over_there, over_none)

@@ -6,6 +6,7 @@ use Rattle.wasm_typing_blocks.specs.WasmTypingChecks.WasmSpecRules.Attempts.{◌
 use Rattle.wasm_typing_blocks.specs.WasmTypingChecks.WasmSpecRules.Contexts.{Context}
 use Rattle.wasm_typing_blocks.specs.WasmTypingChecks.WasmSpecRules.WasmSpec.Syntax.{Val}
 use Rattle.wasm_readers_types.specs.WasmReadersValues.declared.indices.UnpackedIndex.{UnpackedIndex}
+use Rattle.wasm_operators.specs.Control.{Block, empty_block}
 use Rattle.wasm_operators.specs.SeenControl.{block_of}
 use Rattle.wasm_typing_blocks.specs.WasmTypingChecks.WasmSpecSteps.Machine as machine
 use Rattle.wasm_typing_blocks.specs.WasmTypingChecks.WasmSpecSteps.Machine.{State, Operand, known}
@@ -25,3 +26,12 @@ shown_frame x = record { kind = kind_of x.kind; block = block_of x.block_type; h
 -- how many operands a branch to a label takes, and how many stand below its frame
 abbrev pub label_counts_in : Context UnpackedIndex → State UnpackedIndex → ℕ → Option (ℕ × ℕ)
 label_counts_in C s l = slice_get s.frames l >>= λ x. option_map (λ g. (length (label_by x.kind g), x.height)) (signature_in C x.block)
+
+-- that many below a frame, where its block has no types
+abbrev pub height_over : Block UnpackedIndex → ℕ → Option ℕ
+height_over empty_block h = Some h
+height_over _ h = None
+
+-- how many operands stand below the frame of a label, where its block has no types
+abbrev pub height_of_empty_in : State UnpackedIndex → ℕ → Option ℕ
+height_of_empty_in s l = slice_get s.frames l >>= λ x. height_over x.block x.height

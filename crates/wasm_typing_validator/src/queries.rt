@@ -1,13 +1,13 @@
 //! What a validator of operators shows.
 
-ghost use Rattle.std.specs.Prelude.{◌≡◌, ◌≤◌, ◌<◌, ◌^◌, ◌-◌, length, slice_get};
+ghost use Rattle.std.specs.Prelude.{◌≡◌, ◌≤◌, ◌<◌, ◌^◌, ◌-◌, length, slice_get, Some, IfSome};
 ghost use Rattle.std.specs.Option.{option_map};
 ghost use Rattle.wasm_readers_types.specs.WasmReadersValues.SeenValues.{val_of};
 ghost use Rattle.wasm_typing_blocks.specs.WasmTypingChecks.WasmSpecSteps.Meanings.{label_by};
 ghost use Rattle.wasm_typing_blocks.specs.WasmTypingChecks.WasmTypingStacks.SeenBlocks.{block_in, kind_of};
 ghost use Rattle.wasm_typing_steps.specs.WasmTypingControl.Blocks.{function_in, signature_in};
 ghost use Rattle.wasm_typing_validator.specs.BodyTyping.{typed_state, locals_in};
-ghost use Rattle.wasm_typing_validator.specs.QueryResults.{known_type, shown_frame, label_counts_in};
+ghost use Rattle.wasm_typing_validator.specs.QueryResults.{known_type, shown_frame, label_counts_in, height_of_empty_in};
 
 use crate::validator::OperatorValidator;
 use std::alloc::Allocator;
@@ -185,6 +185,28 @@ impl<A: Allocator> OperatorValidator<A> {
                 unreachable: frame.unreachable,
                 init_height: frame.init_height,
             }),
+            None => None,
+        }
+    }
+
+    /// How many operands stand below the frame of the label at this depth, the innermost at 0, if there
+    /// is such a label and its block is one without types, so that a branch to it takes nothing.
+    #[inline(always)]
+    #[tactic(auto, using(crate::proofs::LabelCounts::empties))]
+    pub fn height_of_empty<T: WasmModuleResources>(
+        &self,
+        _resources: &T,
+        depth: u32,
+    ) -> Option<usize>
+        ensures shown { result ≡ height_of_empty_in (typed_state self.now) depth }
+        ensures counts { IfSome result (λ h. label_counts_in (T.context _resources.now)
+            (typed_state self.now) depth ≡ Some (0, h)) }
+    {
+        match frame_at(&self.stacks, depth as usize) {
+            Some(frame) => match frame.block.seen() {
+                Block::Empty => Some(frame.height),
+                Block::Value(_) | Block::Func(_) => None,
+            },
             None => None,
         }
     }

@@ -1,3 +1,4 @@
+pub use Rattle.wasm_typing_validator.proofs as WasmTypingValidator
 pub mod DeclarationReads
 pub mod LocalDeclarations
 pub mod Machine

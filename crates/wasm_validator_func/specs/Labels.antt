@@ -9,7 +9,7 @@ use Rattle.wasm_operators.specs.Control.{Block}
 use Rattle.wasm_spec_steps.specs.Machine.{State}
 use Rattle.wasm_spec_steps.specs.Meanings.{label_by}
 use Rattle.wasm_typing_validator.specs.WasmTypingControl.Blocks.{signature_in}
-pub use Rattle.wasm_typing_validator.specs.QueryResults.{label_counts_in}
+pub use Rattle.wasm_typing_validator.specs.QueryResults.{label_counts_in, height_of_empty_in}
 
 -- how many parameters and results there are
 abbrev pub both_lengths : Signature UnpackedIndex → ℕ × ℕ

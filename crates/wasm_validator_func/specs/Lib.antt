@@ -1,3 +1,4 @@
+pub use Rattle.wasm_typing_validator.specs as WasmTypingValidator
 pub use Rattle.wasm_typing_validator.specs.StackSteps
 pub mod Bodies
 pub mod BodyValidation

@@ -1,9 +1,9 @@
 //! How many operands blocks and labels take.
 
-ghost use Rattle.std.specs.Prelude.{◌≡◌};
+ghost use Rattle.std.specs.Prelude.{◌≡◌, Some, IfSome};
 ghost use Rattle.wasm_operators.specs.SeenControl.{block_of};
 ghost use Rattle.wasm_typing_validator.specs.BodyTyping.{typed_state};
-ghost use Rattle.wasm_validator_func.specs.Labels.{block_arity_in, label_arity_in, label_counts_in};
+ghost use Rattle.wasm_validator_func.specs.Labels.{block_arity_in, label_arity_in, label_counts_in, height_of_empty_in};
 
 use crate::func_validator::FuncValidator;
 use std::alloc::Allocator;
@@ -54,6 +54,18 @@ impl<T: WasmModuleResources, A: Allocator> FuncValidator<T, A> {
             },
             None => None,
         }
+    }
+
+    /// How many operands stand below the frame of the label at this depth, the innermost at 0, if there
+    /// is such a label and its block is one without types, so that a branch to it takes nothing (Core
+    /// Specification 3.0, Validation, Instructions, `br`).
+    #[inline(always)]
+    pub fn height_of_empty(&self, depth: u32) -> Option<usize>
+        ensures shown { result ≡ height_of_empty_in (typed_state self.now.validator) depth }
+        ensures counts { IfSome result (λ h. label_counts_in (T.context self.now.resources)
+            (typed_state self.now.validator) depth ≡ Some (0, h)) }
+    {
+        self.validator.height_of_empty(&self.resources, depth)
     }
 
     /// How many operands a branch to the label at this depth takes, the innermost at 0, and how many
