@@ -11,8 +11,8 @@ use Rattle.wasm_operators.specs.Control.{Block, empty_block, value_block, func_b
 use Rattle.wasm_operators.specs.Instructions.{Instruction, plain_from, of_family, control}
 use Rattle.wasm_spec_steps.specs.Bodies.{Surroundings}
 use Rattle.wasm_validator_resources.specs.Answers.{world}
-use Rattle.wasm_typing_validator.specs.TypedInstructions.{within}
-use Rattle.wasm_typing_validator.specs.declared.validator.OperatorValidator.{OperatorValidator}
+use Rattle.wasm_validator_func.specs.WasmTypingValidator.TypedInstructions.{within}
+use Rattle.wasm_validator_func.specs.WasmTypingValidator.declared.validator.OperatorValidator.{OperatorValidator}
 use Rattle.wasm_spec_side_tables.specs.declared.entry.Entry.{Entry}
 use Rattle.wasm_spec_side_tables.specs.SideTables.{Branch, to_label, past_then, branches, Nesting, opens, opens_loop, turns, closes, stays, nesting, taken_by}
 use Rattle.wasm_spec_side_tables.specs.OnePassTables.{Built}

@@ -11,9 +11,9 @@ use Rattle.wasm_operators.specs.WasmOperatorsProposals.declared.continuations.Ha
 use Rattle.wasm_spec_steps.specs.Actions.{OperandTypes}
 use Rattle.wasm_spec_steps.specs.Meanings.{types_at}
 use Rattle.wasm_validator_resources.specs.Answers.{world}
-use Rattle.wasm_typing_validator.specs.BodyTyping.{typed_state}
-use Rattle.wasm_typing_validator.specs.TypedInstructions.{within}
-use Rattle.wasm_typing_validator.specs.declared.validator.OperatorValidator.{OperatorValidator}
+use Rattle.wasm_validator_func.specs.WasmTypingValidator.BodyTyping.{typed_state}
+use Rattle.wasm_validator_func.specs.WasmTypingValidator.TypedInstructions.{within}
+use Rattle.wasm_validator_func.specs.WasmTypingValidator.declared.validator.OperatorValidator.{OperatorValidator}
 use Rattle.wasm_spec_side_tables.specs.declared.entry.Entry.{Entry}
 use Rattle.wasm_spec_side_tables.specs.SideTables.{handling_to, handle_branches, label_counts, counts}
 use Rattle.wasm_spec_side_tables.specs.OnePassTables.{Built, number_of}

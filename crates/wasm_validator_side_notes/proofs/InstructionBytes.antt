@@ -11,12 +11,12 @@ use Rattle.wasm_operators.proofs.Renamings.{instruction-renames}
 use Rattle.wasm_spec_steps.specs.Machine.{State}
 use Rattle.wasm_validator_resources.specs.Answers.{world, written_index}
 use Rattle.wasm_typing_stacks.specs.BodyStacks.{Kept}
-use Rattle.wasm_typing_validator.specs.WasmTypingSteps.InstructionSteps.{step_read, step_at}
-use Rattle.wasm_typing_validator.specs.BodyTyping.{typed_state}
-use Rattle.wasm_typing_validator.specs.TypedInstructions.{within}
-use Rattle.wasm_typing_validator.specs.StepsFromBytes.{stepped}
-use Rattle.wasm_typing_validator.specs.declared.validator.OperatorValidator.{OperatorValidator}
-use Rattle.wasm_typing_validator.proofs.CodeSurroundings.{kept_around}
+use Rattle.wasm_validator_func.specs.WasmTypingValidator.WasmTypingSteps.InstructionSteps.{step_read, step_at}
+use Rattle.wasm_validator_func.specs.WasmTypingValidator.BodyTyping.{typed_state}
+use Rattle.wasm_validator_func.specs.WasmTypingValidator.TypedInstructions.{within}
+use Rattle.wasm_validator_func.specs.WasmTypingValidator.StepsFromBytes.{stepped}
+use Rattle.wasm_validator_func.specs.WasmTypingValidator.declared.validator.OperatorValidator.{OperatorValidator}
+use Rattle.wasm_validator_func.proofs.WasmTypingValidator.CodeSurroundings.{kept_around}
 use Rattle.wasm_spec_side_tables.specs.SideTables.{Branch, branches, Nesting, nesting}
 use Rattle.wasm_spec_side_tables.specs.OnePassTables.{Built}
 use Rattle.wasm_spec_side_tables.proofs.Lists.{the_same, bind-gives}

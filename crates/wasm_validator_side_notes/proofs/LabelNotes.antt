@@ -11,17 +11,18 @@ use Rattle.wasm_operators.specs.Control.{br_table, br_table_at, control_from}
 use Rattle.wasm_operators.specs.Instructions.{instruction_at, plain_from, of_family, control}
 use Rattle.wasm_spec_steps.specs.Machine.{State}
 use Rattle.wasm_validator_resources.specs.Answers.{world}
-use Rattle.wasm_typing_validator.specs.BodyTyping.{typed_state}
-use Rattle.wasm_typing_validator.specs.TypedInstructions.{within}
-use Rattle.wasm_typing_validator.specs.StepsFromBytes.{stepped}
-use Rattle.wasm_typing_validator.specs.declared.validator.OperatorValidator.{OperatorValidator}
+use Rattle.wasm_validator_func.specs.WasmTypingValidator.BodyTyping.{typed_state}
+use Rattle.wasm_validator_func.specs.WasmTypingValidator.QueryResults.{label_counts_in}
+use Rattle.wasm_validator_func.specs.WasmTypingValidator.TypedInstructions.{within}
+use Rattle.wasm_validator_func.specs.WasmTypingValidator.StepsFromBytes.{stepped}
+use Rattle.wasm_validator_func.specs.WasmTypingValidator.declared.validator.OperatorValidator.{OperatorValidator}
 use Rattle.wasm_spec_side_tables.specs.declared.entry.Entry.{Entry}
 use Rattle.wasm_spec_side_tables.specs.SideTables.{to_label, branches}
 use Rattle.wasm_spec_side_tables.specs.OnePassTables.{Built}
 use Rattle.wasm_spec_side_tables.proofs.Lists.{the_same, bind-gives}
-use Rattle.wasm_validator_side_notes.specs.TableViews.{label_in, planned_in}
+use Rattle.wasm_validator_side_notes.specs.TableViews.{planned_in}
 use Rattle.wasm_validator_side_notes.specs.Tables.{Advances}
-use Rattle.wasm_validator_side_notes.specs.OperatorNotes.{entry_to, with_entry}
+use Rattle.wasm_validator_side_notes.specs.OperatorNotes.{IsBranchedTo, entry_to, with_entry}
 use Rattle.wasm_validator_side_notes.specs.LabelEntries.{with_each, AreBranchedTo, IsBranchedByTable}
 use Rattle.wasm_validator_side_notes.proofs.Opcodes.{plainly_back}
 use Rattle.wasm_validator_side_notes.proofs.BranchNotes.{planned_none, planned_alone, planned_more, planned_last}
@@ -38,13 +39,12 @@ module _ (C : Context UnpackedIndex) (s : State UnpackedIndex) (at n : ℕ) wher
   with_one : (l : ℕ) (ls : List ℕ) (e : Entry) (T U V : Built) → entry_to C s T at l n ≡ Some e → U ≡ with_entry T e → with_each C s at n ls U ≡ Some V → with_each C s at n (l ∷ ls) T ≡ Some V
   with_one l ls e T U V p q f = ap (λ (o : Option Entry). o >>= λ (x : Entry). with_each C s at n ls (with_entry T x)) p ∙ ap (λ (X : Built). with_each C s at n ls X) (sym q) ∙ f
 
-  pub one_more : (many l : ℕ) (bytes next more : List ℕ) (e : Entry) (T U V : Built) → 0 < many → u32_at bytes ≡ Some (l, next) → entry_to C s T at l n ≡ Some e → U ≡ with_entry T e
-      → AreBranchedTo C s at n (many - 1) next more U V → AreBranchedTo C s at n many bytes more T V
-  one_more zero l bytes next more e T U V p r h q a = absurd (omega (arith, p))
-  one_more (suc many) l bytes next more e T U V p r h q a =
+  pub one_more : (many l : ℕ) (bytes next more : List ℕ) (T U V : Built) → 0 < many → u32_at bytes ≡ Some (l, next) → IsBranchedTo C s at l n T U → AreBranchedTo C s at n (many - 1) next more U V → AreBranchedTo C s at n many bytes more T V
+  one_more zero l bytes next more T U V p r x a = absurd (omega (arith, p))
+  one_more (suc many) l bytes next more T U V p r x a =
       let k : suc many - 1 ≡ many = omega arith in
       let f : many_at u32_at many next ≡ Some (a.labels, more) = subst (λ j. many_at u32_at j next ≡ Some (a.labels, more)) k a.read in
-      record { labels = l ∷ a.labels; read = rw (r, f) refl; added = with_one l a.labels e T U V h q a.added }
+      record { labels = l ∷ a.labels; read = rw (r, f) refl; added = with_one l a.labels x.0 T U V x.1 x.2 a.added }
 
   -- the default, which is one label alone
   abbrev IsOne : Option (ℕ × List ℕ) → List ℕ → List ℕ → Type 0
@@ -75,7 +75,7 @@ module _ (C : Context UnpackedIndex) (s : State UnpackedIndex) (at n : ℕ) wher
 
 -- the same labels before the step and behind it
 module _ {A : Type 0} (C : Context UnpackedIndex) (v w : OperatorValidator A) (count at : ℕ) (many : length (typed_state v).operands ≡ count)
-    (same : (l : ℕ) → label_in C (typed_state w) l ≡ label_in C (typed_state v) l) where
+    (same : (l : ℕ) → label_counts_in C (typed_state w) l ≡ label_counts_in C (typed_state v) l) where
   planned_each : (ks : List ℕ) (T U : Built) → with_each C (typed_state w) at (count - 1) ks T ≡ Some U → planned_in C v at (map (λ l. to_label l 1) ks) T ≡ Some U
   planned_each [] T U e = planned_none C v at T ∙ e
   planned_each (k ∷ ks) T U e =

@@ -15,9 +15,9 @@ use Rattle.wasm_spec_steps.specs.Meanings.{label_by, types_at, label_at, labels_
 use Rattle.wasm_spec_steps.specs.Shapes.{shape_of, one}
 use Rattle.wasm_spec_steps.specs.Steps.{is_open, step_in, actions_of}
 use Rattle.wasm_spec_steps.proofs.OperandSequences.{pop_vals-frames}
-use Rattle.wasm_typing_validator.specs.WasmTypingControl.Blocks.{signature_in}
+use Rattle.wasm_validator_func.specs.WasmTypingValidator.WasmTypingControl.Blocks.{signature_in}
+use Rattle.wasm_validator_func.specs.WasmTypingValidator.QueryResults.{label_counts_in}
 use Rattle.wasm_spec_side_tables.proofs.Lists.{the_same, bind-gives, guard-gives}
-use Rattle.wasm_validator_side_notes.specs.TableViews.{label_in}
 
 module _ (C : Context UnpackedIndex) where
   abbrev label_from : List (Frame UnpackedIndex) → ℕ → Option (ℕ × ℕ)
@@ -32,7 +32,7 @@ module _ (C : Context UnpackedIndex) where
   stopped (x ∷ xs) s t l e = ap (λ (q : State UnpackedIndex). label_from q.frames l) (sym (the_same _ t e)) ∙ marked x xs l
 
   module _ (W : World UnpackedIndex) (B : Surroundings UnpackedIndex) where
-    pub branch-labels : (l k : ℕ) (s t : State UnpackedIndex) → step_in W B (control (br l)) s ≡ Some t → label_in C t k ≡ label_in C s k
+    pub branch-labels : (l k : ℕ) (s t : State UnpackedIndex) → step_in W B (control (br l)) s ≡ Some t → label_counts_in C t k ≡ label_counts_in C s k
     branch-labels l k s t e =
         let f = bind-gives (guard (is_open s) s) (run W B (actions_of (shape_of (control (br l))))) t e in
         let g = guard-gives (is_open s) s f.0 f.1 in
@@ -43,7 +43,7 @@ module _ (C : Context UnpackedIndex) where
         let same : a.0.frames ≡ s.frames = (pop_vals-frames W b.0 f.0 a.0 b.2).0 ∙ ap (λ (q : State UnpackedIndex). q.frames) (sym g.1) in
         stopped a.0.frames a.0 t k u ∙ ap (λ (fs : List (Frame UnpackedIndex)). label_from fs k) same
 
-    pub branch_if-labels : (l k : ℕ) (s t : State UnpackedIndex) → step_in W B (control (br_if l)) s ≡ Some t → label_in C t k ≡ label_in C s k
+    pub branch_if-labels : (l k : ℕ) (s t : State UnpackedIndex) → step_in W B (control (br_if l)) s ≡ Some t → label_counts_in C t k ≡ label_counts_in C s k
     branch_if-labels l k s t e =
         let f = bind-gives (guard (is_open s) s) (run W B (actions_of (shape_of (control (br_if l))))) t e in
         let g = guard-gives (is_open s) s f.0 f.1 in
@@ -55,7 +55,7 @@ module _ (C : Context UnpackedIndex) where
         let same : a.0.frames ≡ s.frames = (pop_vals-frames W b.0 f.0 a.0 b.2).0 ∙ ap (λ (q : State UnpackedIndex). q.frames) (sym g.1) in
         ap (λ (fs : List (Frame UnpackedIndex)). label_from fs k) (sym (ap (λ (q : State UnpackedIndex). q.frames) after) ∙ same)
 
-    pub table-labels : (ls : List ℕ) (l k : ℕ) (s t : State UnpackedIndex) → step_in W B (control (br_table ls l)) s ≡ Some t → label_in C t k ≡ label_in C s k
+    pub table-labels : (ls : List ℕ) (l k : ℕ) (s t : State UnpackedIndex) → step_in W B (control (br_table ls l)) s ≡ Some t → label_counts_in C t k ≡ label_counts_in C s k
     table-labels ls l k s t e =
         let f = bind-gives (guard (is_open s) s) (run W B (actions_of (shape_of (control (br_table ls l))))) t e in
         let g = guard-gives (is_open s) s f.0 f.1 in

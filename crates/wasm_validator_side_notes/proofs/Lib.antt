@@ -1,5 +1,5 @@
 pub use Rattle.wasm_spec_side_tables.proofs as WasmSpecSideTables
-pub use Rattle.wasm_typing_validator.proofs as WasmTypingValidator
+pub use Rattle.wasm_validator_func.proofs.WasmTypingValidator as WasmTypingValidator
 pub use Rattle.wasm_validator_func.proofs as WasmValidatorFunc
 pub mod BranchNotes
 pub mod Opcodes

@@ -11,11 +11,11 @@ use Rattle.wasm_operators.specs.SeenOperators.{operator_of}
 use Rattle.wasm_operators.specs.declared.operators.Operator.{Operator}
 use Rattle.wasm_operators.proofs.Renamings.{instruction-renames}
 use Rattle.wasm_validator_resources.specs.Answers.{world, written_index}
-use Rattle.wasm_typing_validator.specs.BodyTyping.{typed_state}
-use Rattle.wasm_typing_validator.specs.TypedInstructions.{within, TookAt}
+use Rattle.wasm_validator_func.specs.WasmTypingValidator.BodyTyping.{typed_state}
+use Rattle.wasm_validator_func.specs.WasmTypingValidator.TypedInstructions.{within, TookAt}
 use Rattle.wasm_readers_errors.specs.declared.error.Error.{Error}
-use Rattle.wasm_typing_validator.specs.OperatorVisits.{StepsAt}
-use Rattle.wasm_typing_validator.specs.declared.validator.OperatorValidator.{OperatorValidator}
+use Rattle.wasm_validator_func.specs.WasmTypingValidator.OperatorVisits.{StepsAt}
+use Rattle.wasm_validator_func.specs.WasmTypingValidator.declared.validator.OperatorValidator.{OperatorValidator}
 use Rattle.wasm_validator_func.proofs.OperatorSteps.{took}
 use Rattle.wasm_validator_side_notes.specs.TableViews.{instruction_of, placed, noted_in, steps_to}
 use Rattle.wasm_spec.specs.MatchingTests.{World}

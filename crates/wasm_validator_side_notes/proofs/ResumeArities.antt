@@ -13,14 +13,14 @@ use Rattle.wasm_spec_steps.specs.Actions.{OperandTypes, params, of_tag, joined}
 use Rattle.wasm_spec_steps.specs.Meanings.{cont_of, continued_signature, type_signature, types_at}
 use Rattle.wasm_spec_steps.specs.Shapes.{one, nullable_to, reference_to, takes_of, gives_of}
 use Rattle.wasm_validator_resources.specs.Answers.{world, sub_in}
-use Rattle.wasm_typing_validator.specs.WasmTypingArity.Arities as arities
-use Rattle.wasm_typing_validator.specs.WasmTypingArity.Arities.{plus, pair, func_counts, function_behind, continued_counts, how_many, in_u32}
-use Rattle.wasm_typing_validator.specs.WasmTypingArity.ArityQueries.{Asked, type_of_id}
-use Rattle.wasm_typing_validator.specs.WasmTypingArity.Lengths.{lengths_of}
-use Rattle.wasm_typing_validator.specs.ModuleAnswers.{asked_in}
-use Rattle.wasm_typing_validator.specs.BodyTyping.{typed_state}
-use Rattle.wasm_typing_validator.specs.TypedInstructions.{within}
-use Rattle.wasm_typing_validator.specs.declared.validator.OperatorValidator.{OperatorValidator}
+use Rattle.wasm_validator_func.specs.WasmTypingValidator.WasmTypingArity.Arities as arities
+use Rattle.wasm_validator_func.specs.WasmTypingValidator.WasmTypingArity.Arities.{plus, pair, func_counts, function_behind, continued_counts, how_many, in_u32}
+use Rattle.wasm_validator_func.specs.WasmTypingValidator.WasmTypingArity.ArityQueries.{Asked, type_of_id}
+use Rattle.wasm_validator_func.specs.WasmTypingValidator.WasmTypingArity.Lengths.{lengths_of}
+use Rattle.wasm_validator_func.specs.WasmTypingValidator.ModuleAnswers.{asked_in}
+use Rattle.wasm_validator_func.specs.WasmTypingValidator.BodyTyping.{typed_state}
+use Rattle.wasm_validator_func.specs.WasmTypingValidator.TypedInstructions.{within}
+use Rattle.wasm_validator_func.specs.WasmTypingValidator.declared.validator.OperatorValidator.{OperatorValidator}
 use Rattle.wasm_spec_side_tables.proofs.Lists.{the_same, absent, bind-gives}
 use Rattle.wasm_validator_side_notes.specs.ResumeOperands.{AreSoMany, AreTaken}
 

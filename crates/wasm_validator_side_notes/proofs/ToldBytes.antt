@@ -2,9 +2,9 @@
 use Rattle.std.proofs.Common.{◌≡◌, ◌≤◌, ◌<◌, ◌==◌, refl, subst, ℕ, zero, suc, ◌+◌, ◌-◌, Bool, true, false, Option, Some, None, arith, if◌then◌else◌, nat_lt}
 use Rattle.std.proofs.lemmas.Bool.Decides.{nat_tests, Decides-eqb}
 use Rattle.std.specs.Prelude.{⊤}
-use Rattle.wasm_typing_validator.specs.WasmTypingSteps.ToldSteps.{told_of}
-use Rattle.wasm_typing_validator.specs.WasmTypingSteps.declared.told.Told.{Told}
-use Rattle.wasm_typing_validator.specs.WasmTypingSteps.declared.told.Told.TheVariants as told
+use Rattle.wasm_validator_func.specs.WasmTypingValidator.WasmTypingSteps.ToldSteps.{told_of}
+use Rattle.wasm_validator_func.specs.WasmTypingValidator.WasmTypingSteps.declared.told.Told.{Told}
+use Rattle.wasm_validator_func.specs.WasmTypingValidator.WasmTypingSteps.declared.told.Told.TheVariants as told
 use Rattle.wasm_spec_side_tables.proofs.Lists.{the_same}
 use Rattle.wasm_validator_side_notes.specs.OperatorNotes.{IsQuiet}
 use Rattle.wasm_validator_side_notes.proofs.Opcodes.{quiet_high, quiet_00, quiet_01, quiet_0f, quiet_10, quiet_11, quiet_1a, quiet_1b}

@@ -12,18 +12,19 @@ use Rattle.wasm_operators.specs.Instructions.{plain_from, of_family, control}
 use Rattle.wasm_spec_steps.specs.Machine.{Frame, Kind, State}
 use Rattle.wasm_spec_steps.specs.Meanings.{block_signature, label_by}
 use Rattle.wasm_validator_resources.specs.Answers.{world}
-use Rattle.wasm_typing_validator.specs.WasmTypingControl.Blocks.{function_in, signature_in}
-use Rattle.wasm_typing_validator.specs.WasmTypingSteps.ToldSteps.{told_at}
-use Rattle.wasm_typing_validator.specs.WasmTypingSteps.declared.told.Told.{Told}
-use Rattle.wasm_typing_validator.specs.WasmTypingSteps.declared.told.Told.TheVariants as told
-use Rattle.wasm_typing_validator.specs.BodyTyping.{typed_state}
-use Rattle.wasm_typing_validator.specs.TypedInstructions.{within}
-use Rattle.wasm_typing_validator.specs.declared.validator.OperatorValidator.{OperatorValidator}
+use Rattle.wasm_validator_func.specs.WasmTypingValidator.WasmTypingControl.Blocks.{function_in, signature_in}
+use Rattle.wasm_validator_func.specs.WasmTypingValidator.WasmTypingSteps.ToldSteps.{told_at}
+use Rattle.wasm_validator_func.specs.WasmTypingValidator.WasmTypingSteps.declared.told.Told.{Told}
+use Rattle.wasm_validator_func.specs.WasmTypingValidator.WasmTypingSteps.declared.told.Told.TheVariants as told
+use Rattle.wasm_validator_func.specs.WasmTypingValidator.BodyTyping.{typed_state}
+use Rattle.wasm_validator_func.specs.WasmTypingValidator.QueryResults.{label_counts_in}
+use Rattle.wasm_validator_func.specs.WasmTypingValidator.TypedInstructions.{within}
+use Rattle.wasm_validator_func.specs.WasmTypingValidator.declared.validator.OperatorValidator.{OperatorValidator}
 use Rattle.wasm_spec_side_tables.specs.declared.entry.Entry.{Entry}
 use Rattle.wasm_spec_side_tables.specs.declared.entry.OpenBlock.{OpenBlock}
 use Rattle.wasm_spec_side_tables.specs.SideTables.{to_label, label_counts, opens, opens_loop, closes}
 use Rattle.wasm_spec_side_tables.specs.OnePassTables.{Built}
-use Rattle.wasm_validator_side_notes.specs.TableViews.{label_in, nested_in, planned_one, steps_to}
+use Rattle.wasm_validator_side_notes.specs.TableViews.{nested_in, planned_one, steps_to}
 use Rattle.wasm_validator_side_notes.specs.OperatorNotes.{IsQuiet, IsBranchedTo, LeadsOn, branch_told, entry_past, with_entry, with_noted, nesting_of, IsNoted, entry_by, entry_to}
 use Rattle.wasm_validator_side_notes.specs.declared.frequent.Noted.{Noted}
 use Rattle.wasm_validator_side_notes.specs.declared.frequent.Noted.TheVariants.{Opens, OpensLoop, OpensThen, Closes, Branches}
@@ -83,27 +84,27 @@ module _ {A : Type 0} (C : Context UnpackedIndex) (w : OperatorValidator A) (cou
     by_frame None = refl
     by_frame (Some x) = by_block x.kind x.height x.block
 
-    counts_same : (l : ℕ) → label_counts (world C) (within v C) (typed_state v) l ≡ label_in C (typed_state v) l
+    counts_same : (l : ℕ) → label_counts (world C) (within v C) (typed_state v) l ≡ label_counts_in C (typed_state v) l
     counts_same l = by_frame (slice_get (typed_state v).frames l)
 
-    pub planned_as : (taken l : ℕ) (e : Entry) → label_in C (typed_state w) l ≡ label_in C (typed_state v) l → entry_to C (typed_state w) T at l (count - taken) ≡ Some e → planned_one C v at (to_label l taken) T ≡ Some e
+    pub planned_as : (taken l : ℕ) (e : Entry) → label_counts_in C (typed_state w) l ≡ label_counts_in C (typed_state v) l → entry_to C (typed_state w) T at l (count - taken) ≡ Some e → planned_one C v at (to_label l taken) T ≡ Some e
     planned_as taken l e s p =
         let o : Option OpenBlock = slice_get T.nest.open_blocks l in
-        let a : entry_by at (length (typed_state v).operands - taken) o (label_in C (typed_state v) l) ≡ Some e =
-        ap (λ (n : ℕ). entry_by at (n - taken) o (label_in C (typed_state v) l)) many ∙ ap (λ (x : Option (ℕ × ℕ)). entry_by at (count - taken) o x) (sym s) ∙ p in
-        ap (λ (x : Option (ℕ × ℕ)). number_with at (length (typed_state v).operands - taken) o x) (counts_same l) ∙ planned_by at (length (typed_state v).operands - taken) o (label_in C (typed_state v) l) e a
+        let a : entry_by at (length (typed_state v).operands - taken) o (label_counts_in C (typed_state v) l) ≡ Some e =
+        ap (λ (n : ℕ). entry_by at (n - taken) o (label_counts_in C (typed_state v) l)) many ∙ ap (λ (x : Option (ℕ × ℕ)). entry_by at (count - taken) o x) (sym s) ∙ p in
+        ap (λ (x : Option (ℕ × ℕ)). number_with at (length (typed_state v).operands - taken) o x) (counts_same l) ∙ planned_by at (length (typed_state v).operands - taken) o (label_counts_in C (typed_state v) l) e a
 
   pub noted_branch : (taken l : ℕ) (bytes more : List ℕ) (e : Entry) → taken ≤ 1 → u32_at bytes ≡ Some (l, more) → entry_to C (typed_state w) T at l (count - taken) ≡ Some e → IsNoted C w count at T ((0x0c + taken) ∷ bytes) (Branches e)
   noted_branch zero l bytes more e few h p = record {
     foreseen = λ v many steps.
         let step : steps_to C v (control (br l)) ≡ Some (typed_state w) = steps (control (br l)) more (plainly_back 0x0c bytes (control (br l)) more (omega arith) (read_br bytes more l h)) in
-        let same : label_in C (typed_state w) l ≡ label_in C (typed_state v) l = branch-labels C (world C) (within v C) l l (typed_state v) (typed_state w) step in
+        let same : label_counts_in C (typed_state w) l ≡ label_counts_in C (typed_state v) l = branch-labels C (world C) (within v C) l l (typed_state v) (typed_state w) step in
         foresees_branch C v at T 0 bytes more l e few h (planned_as v many 0 l e same p);
   }
   noted_branch (suc zero) l bytes more e few h p = record {
     foreseen = λ v many steps.
         let step : steps_to C v (control (br_if l)) ≡ Some (typed_state w) = steps (control (br_if l)) more (plainly_back 0x0d bytes (control (br_if l)) more (omega arith) (read_br_if bytes more l h)) in
-        let same : label_in C (typed_state w) l ≡ label_in C (typed_state v) l = branch_if-labels C (world C) (within v C) l l (typed_state v) (typed_state w) step in
+        let same : label_counts_in C (typed_state w) l ≡ label_counts_in C (typed_state v) l = branch_if-labels C (world C) (within v C) l l (typed_state v) (typed_state w) step in
         foresees_branch C v at T 1 bytes more l e few h (planned_as v many 1 l e same p);
   }
   noted_branch (suc (suc n)) l bytes more e few h p = absurd (omega (arith, few))
@@ -178,9 +179,28 @@ module _ {A : Type 0} (C : Context UnpackedIndex) (w : OperatorValidator A) (r q
   leads_branch T U (suc (suc n)) b l xs more few e s h x = absurd (omega (arith, few))
 
 -- an entry that is added
-pub branched : (C : Context UnpackedIndex) (s : State UnpackedIndex) (at n l k : ℕ) (T U : Built) (e : Entry) → n ≡ at → entry_to C s T n l k ≡ Some e → U ≡ with_entry T e → IsBranchedTo C s at l k T U
-branched C s at n l k T U e d f g = (e, ap (λ (m : ℕ). entry_to C s T m l k) (sym d) ∙ f, g)
+module _ (C : Context UnpackedIndex) (s : State UnpackedIndex) (at l k : ℕ) (T U : Built) where
+  pub branched :
+      (b : OpenBlock) (c : ℕ × ℕ) (e : Entry) → Some b ≡ slice_get T.nest.open_blocks l → label_counts_in C s l ≡ Some c → e ≡ record { at = at; target = b.label; next = 0; kept = c.0; dropped = k - c.0 - c.1 }
+      → U ≡ with_entry T e → IsBranchedTo C s at l k T U
+  branched b c e f g h u =
+      let x : Option (ℕ × ℕ) = label_counts_in C s l in
+      (e, ap (λ (o : Option OpenBlock). entry_by at k o x) (sym f) ∙ ap (λ (y : Option (ℕ × ℕ)). entry_by at k (Some b) y) g ∙ ap (λ (r : Entry). Some r) (sym h), u)
 
-pub ruleset adds = (branched)
+  -- where the label takes nothing
+  pub branched_empty :
+      (b : OpenBlock) (h : ℕ) (e : Entry) → Some b ≡ slice_get T.nest.open_blocks l → label_counts_in C s l ≡ Some (0, h) → e ≡ record { at = at; target = b.label; next = 0; kept = 0; dropped = k - h }
+      → U ≡ with_entry T e → IsBranchedTo C s at l k T U
+  branched_empty b h e f g d u =
+      let none : k - 0 - h ≡ k - h = omega arith in
+      branched b (0, h) e f g (d ∙ ap (λ (n : ℕ). record { at = at; target = b.label; next = 0; kept = 0; dropped = n }) (sym none)) u
+
+  pub branched_from : (S : Built) → S ≡ T → IsBranchedTo C s at l k S U → IsBranchedTo C s at l k T U
+  branched_from S e x = subst (λ (V : Built). IsBranchedTo C s at l k V U) e x
+
+  pub branched_at : (n : ℕ) → n ≡ at → IsBranchedTo C s n l k T U → IsBranchedTo C s at l k T U
+  branched_at n e x = subst (λ (m : ℕ). IsBranchedTo C s m l k T U) e x
+
+pub ruleset adds = (branched, branched_empty, branched_from, branched_at)
 
 pub ruleset leads = (leads_quietly, leads_opens, leads_loop, leads_end, leads_then, leads_branch)

@@ -1,5 +1,5 @@
 pub use Rattle.wasm_spec_side_tables.specs as WasmSpecSideTables
-pub use Rattle.wasm_typing_validator.specs as WasmTypingValidator
+pub use Rattle.wasm_validator_func.specs.WasmTypingValidator as WasmTypingValidator
 pub use Rattle.wasm_validator_func.specs as WasmValidatorFunc
 pub mod TableViews
 pub mod Tables

@@ -8,17 +8,18 @@ use Rattle.wasm_readers_types.specs.WasmReadersValues.declared.indices.UnpackedI
 use Rattle.wasm_operators.specs.Instructions.{Instruction, instruction_at}
 use Rattle.wasm_spec_steps.specs.Machine.{State}
 use Rattle.wasm_validator_resources.specs.Answers.{world}
-use Rattle.wasm_typing_validator.specs.BodyTyping.{typed_state}
-use Rattle.wasm_typing_validator.specs.TypedInstructions.{within}
-use Rattle.wasm_typing_validator.specs.StepsFromBytes.{stepped}
-use Rattle.wasm_typing_validator.specs.WasmTypingSteps.declared.told.Told.{Told}
-use Rattle.wasm_typing_validator.specs.WasmTypingSteps.declared.told.Told.TheVariants as told
-use Rattle.wasm_typing_validator.specs.declared.validator.OperatorValidator.{OperatorValidator}
+use Rattle.wasm_validator_func.specs.WasmTypingValidator.BodyTyping.{typed_state}
+use Rattle.wasm_validator_func.specs.WasmTypingValidator.QueryResults.{label_counts_in}
+use Rattle.wasm_validator_func.specs.WasmTypingValidator.TypedInstructions.{within}
+use Rattle.wasm_validator_func.specs.WasmTypingValidator.StepsFromBytes.{stepped}
+use Rattle.wasm_validator_func.specs.WasmTypingValidator.WasmTypingSteps.declared.told.Told.{Told}
+use Rattle.wasm_validator_func.specs.WasmTypingValidator.WasmTypingSteps.declared.told.Told.TheVariants as told
+use Rattle.wasm_validator_func.specs.WasmTypingValidator.declared.validator.OperatorValidator.{OperatorValidator}
 use Rattle.wasm_spec_side_tables.specs.declared.entry.Entry.{Entry}
 use Rattle.wasm_spec_side_tables.specs.declared.entry.OpenBlock.{OpenBlock}
 use Rattle.wasm_spec_side_tables.specs.SideTables.{branches, Nesting, opens, opens_loop, turns, closes, stays, nesting}
 use Rattle.wasm_spec_side_tables.specs.OnePassTables.{Built}
-use Rattle.wasm_validator_side_notes.specs.TableViews.{label_in, planned_in, steps_to}
+use Rattle.wasm_validator_side_notes.specs.TableViews.{planned_in, steps_to}
 use Rattle.wasm_validator_side_notes.specs.Tables.{Advances}
 use Rattle.wasm_validator_side_notes.specs.declared.frequent.Noted.{Noted}
 use Rattle.wasm_validator_side_notes.specs.declared.frequent.Noted.TheVariants.{Stays, Opens, OpensLoop, OpensThen, Turns, Closes, Branches}
@@ -70,7 +71,7 @@ entry_by at n o x = do
 
 -- the entry of a branch to a label
 abbrev pub entry_to : Context UnpackedIndex → State UnpackedIndex → Built → ℕ → ℕ → ℕ → Option Entry
-entry_to C s T at l n = entry_by at n (slice_get T.nest.open_blocks l) (label_in C s l)
+entry_to C s T at l n = entry_by at n (slice_get T.nest.open_blocks l) (label_counts_in C s l)
 
 -- the entry of an `if` whose block takes nothing
 abbrev pub entry_past : ℕ → Built → Entry

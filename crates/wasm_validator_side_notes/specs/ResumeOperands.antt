@@ -8,11 +8,11 @@ use Rattle.wasm_spec_steps.specs.Actions.{OperandTypes}
 use Rattle.wasm_spec_steps.specs.Meanings.{types_at}
 use Rattle.wasm_spec_steps.specs.Shapes.{continuation_shape}
 use Rattle.wasm_validator_resources.specs.Answers.{world}
-use Rattle.wasm_typing_validator.specs.WasmTypingArity.Arities.{arity}
-use Rattle.wasm_typing_validator.specs.ModuleAnswers.{asked_in}
-use Rattle.wasm_typing_validator.specs.BodyTyping.{typed_state}
-use Rattle.wasm_typing_validator.specs.TypedInstructions.{within}
-use Rattle.wasm_typing_validator.specs.declared.validator.OperatorValidator.{OperatorValidator}
+use Rattle.wasm_validator_func.specs.WasmTypingValidator.WasmTypingArity.Arities.{arity}
+use Rattle.wasm_validator_func.specs.WasmTypingValidator.ModuleAnswers.{asked_in}
+use Rattle.wasm_validator_func.specs.WasmTypingValidator.BodyTyping.{typed_state}
+use Rattle.wasm_validator_func.specs.WasmTypingValidator.TypedInstructions.{within}
+use Rattle.wasm_validator_func.specs.WasmTypingValidator.declared.validator.OperatorValidator.{OperatorValidator}
 
 module _ {A : Type 0} (C : Context UnpackedIndex) (v : OperatorValidator A) (t : OperandTypes) where
   -- types that are named so are there, and so many

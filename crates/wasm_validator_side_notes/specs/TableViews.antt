@@ -1,6 +1,5 @@
 -- What contracts see of a side table while it is made.
-use Rattle.std.specs.Prelude.{ℕ, List, ◌++◌, length, Option, Some, slice_get}
-use Rattle.std.specs.Option.{option_map}
+use Rattle.std.specs.Prelude.{ℕ, List, ◌++◌, length, Option, Some}
 use Rattle.wasm_spec_rules.specs.Contexts.{Context}
 use Rattle.wasm_spec_rules.specs.Attempts.{◌>>=◌}
 use Rattle.wasm_readers_types.specs.WasmReadersValues.declared.indices.UnpackedIndex.{UnpackedIndex}
@@ -9,13 +8,11 @@ use Rattle.wasm_operators.specs.Maps.{map_instruction}
 use Rattle.wasm_operators.specs.SeenOperators.{operator_of}
 use Rattle.wasm_operators.specs.declared.operators.Operator.{Operator}
 use Rattle.wasm_spec_steps.specs.Machine.{State}
-use Rattle.wasm_spec_steps.specs.Meanings.{label_by}
 use Rattle.wasm_spec_steps.specs.Steps.{step_in}
 use Rattle.wasm_validator_resources.specs.Answers.{world, written_index}
-use Rattle.wasm_typing_validator.specs.WasmTypingControl.Blocks.{signature_in}
-use Rattle.wasm_typing_validator.specs.BodyTyping.{typed_state}
-use Rattle.wasm_typing_validator.specs.TypedInstructions.{within}
-use Rattle.wasm_typing_validator.specs.declared.validator.OperatorValidator.{OperatorValidator}
+use Rattle.wasm_validator_func.specs.WasmTypingValidator.BodyTyping.{typed_state}
+use Rattle.wasm_validator_func.specs.WasmTypingValidator.TypedInstructions.{within}
+use Rattle.wasm_validator_func.specs.WasmTypingValidator.declared.validator.OperatorValidator.{OperatorValidator}
 use Rattle.wasm_spec_side_tables.specs.declared.entry.Entry.{Entry}
 use Rattle.wasm_spec_side_tables.specs.declared.entry.Place.{Place}
 use Rattle.wasm_spec_side_tables.specs.SideTables.{Placed, Branch, Nesting}
@@ -31,10 +28,6 @@ instruction_of op = map_instruction written_index (operator_of op)
 
 abbrev pub placed : ℕ → ℕ → Operator → Placed
 placed at behind op = record { op = instruction_of op; at = at; behind = behind }
-
--- how many operands a branch to a label gives it, and how many stand below its frame
-abbrev pub label_in : Context UnpackedIndex → State UnpackedIndex → ℕ → Option (ℕ × ℕ)
-label_in C s l = slice_get s.frames l >>= λ x. option_map (λ g. (length (label_by x.kind g), x.height)) (signature_in C x.block)
 
 -- the place behind an instruction that ends there
 abbrev pub place_in : ℕ → Built → Place

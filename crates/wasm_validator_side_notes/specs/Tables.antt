@@ -12,13 +12,13 @@ use Rattle.wasm_spec_steps.specs.Bodies.{Surroundings}
 use Rattle.wasm_spec_steps.specs.Machine.{State}
 use Rattle.wasm_spec_steps.specs.Steps.{start, step_in}
 use Rattle.wasm_validator_resources.specs.Answers.{world, sub_in}
-use Rattle.wasm_typing_validator.specs.WasmTypingControl.Blocks.{function_in}
+use Rattle.wasm_validator_func.specs.WasmTypingValidator.WasmTypingControl.Blocks.{function_in}
 use Rattle.wasm_readers.specs.WasmReadersBytes.Reader.{place_of_next, rest}
 use Rattle.wasm_readers.specs.WasmReadersBytes.declared.binary_reader.BinaryReader.{BinaryReader}
 use Rattle.wasm_typing_stacks.specs.BodyStacks.{Kept}
-use Rattle.wasm_typing_validator.specs.BodyTyping.{parameter, typed_state, locals_in}
-use Rattle.wasm_typing_validator.specs.TypedInstructions.{within}
-use Rattle.wasm_typing_validator.specs.declared.validator.OperatorValidator.{OperatorValidator}
+use Rattle.wasm_validator_func.specs.WasmTypingValidator.BodyTyping.{parameter, typed_state, locals_in}
+use Rattle.wasm_validator_func.specs.WasmTypingValidator.TypedInstructions.{within}
+use Rattle.wasm_validator_func.specs.WasmTypingValidator.declared.validator.OperatorValidator.{OperatorValidator}
 use Rattle.wasm_validator_func.specs.Bodies.{locals_from}
 use Rattle.wasm_validator_func.specs.BodyValidation.{listed_in, Goes}
 use Rattle.wasm_spec_side_tables.specs.SideTables.{Placed, side_table, greatest_height}

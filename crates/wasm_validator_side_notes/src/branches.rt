@@ -7,11 +7,10 @@ ghost use Rattle.wasm_operators.specs.Maps.{map_block};
 ghost use Rattle.wasm_operators.specs.SeenControl.{block_of};
 ghost use Rattle.wasm_operators.specs.SeenLists.{listed};
 ghost use Rattle.wasm_validator_resources.specs.Answers.{written_index};
-ghost use Rattle.wasm_typing_validator.specs.BodyTyping.{typed_state};
+ghost use Rattle.wasm_validator_func.specs.WasmTypingValidator.BodyTyping.{typed_state};
 ghost use Rattle.wasm_spec_side_tables.specs.SideTables.{to_label, past_then, catching_to, catch_label};
 ghost use Rattle.wasm_validator_side_notes.specs.TableViews.{shown, planned_one, planned_in};
 
-use crate::counts::label_counts;
 use crate::table::SideTable;
 use std::alloc::{AllocError, Allocator};
 use wasm_operators::{BlockType, BrTable, Catch, Listed, TryTable};
@@ -46,7 +45,7 @@ impl<A: Allocator> SideTable<A> {
             validator.now.validator at (to_label label taken) (shown self.now) ≡ Some e) }
     {
         let block = self.blocks.get(label as usize)?;
-        let (kept, height) = label_counts(validator, label)?;
+        let (kept, height) = validator.label_counts(label)?;
         let dropped = validator
             .len_operands()
             .saturating_sub(taken as usize)
@@ -68,7 +67,7 @@ impl<A: Allocator> SideTable<A> {
             (shown self.now) ≡ Some e) }
     {
         let block = self.blocks.get(label as usize)?;
-        let (kept, height) = label_counts(validator, label)?;
+        let (kept, height) = validator.label_counts(label)?;
         let (takes, _) = block_arity(validator.resources(), ty)?;
         let operands = count_operands(validator)? as usize;
         let dropped = operands.saturating_sub(takes).saturating_sub(height);

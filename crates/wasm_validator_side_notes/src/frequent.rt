@@ -1,20 +1,19 @@
 //! Frequent operators on blocks and labels, noted once their steps are taken.
 
-ghost use Rattle.std.specs.Prelude.{◌≡◌, ◌≤◌, ◌-◌, if◌then◌else◌, true, Some, IfSome};
+ghost use Rattle.std.specs.Prelude.{◌≡◌, ◌≤◌, ◌-◌, if◌then◌else◌, true, Some};
 ghost use Rattle.wasm_readers.specs.WasmReadersBytes.Reader.{rest};
-ghost use Rattle.wasm_typing_validator.specs.WasmTypingSteps.ToldSteps.{told_at};
-ghost use Rattle.wasm_typing_validator.specs.BodyTyping.{typed_state};
+ghost use Rattle.wasm_validator_func.specs.WasmTypingValidator.WasmTypingSteps.ToldSteps.{told_at};
+ghost use Rattle.wasm_validator_func.specs.WasmTypingValidator.BodyTyping.{typed_state};
 ghost use Rattle.wasm_spec_side_tables.specs.SideTables.{opens, opens_loop, closes};
 ghost use Rattle.wasm_validator_side_notes.specs.TableViews.{shown, nested_in};
-ghost use Rattle.wasm_validator_side_notes.specs.OperatorNotes.{IsBranchedTo, LeadsOn, branch_told, entry_past, entry_to, with_entry, with_noted, nesting_of};
+ghost use Rattle.wasm_validator_side_notes.specs.OperatorNotes.{IsBranchedTo, LeadsOn, branch_told, entry_past, with_entry, with_noted, nesting_of};
 
-use crate::counts::label_counts;
 use crate::table::SideTable;
 use std::alloc::Allocator;
 use wasm_readers::BinaryReader;
 use wasm_spec_side_tables::{Entry, make_entry, narrow, narrow_offset};
-use wasm_typing_validator::Told;
 use wasm_validator_func::FuncValidator;
+use wasm_validator_func::operator_validator::Told;
 use wasm_validator_resources::WasmModuleResources;
 
 /// What is noted of an operator: its entry, if it branches, and what it does to the blocks.
@@ -30,33 +29,66 @@ pub(crate) enum Noted {
 }
 
 impl<A: Allocator> SideTable<A> {
-    /// The entry of a branch to a label, where so many of the operands were taken that it isn't given.
-    #[inline(always)]
-    pub(crate) fn entry_to<T: WasmModuleResources, B: Allocator>(
-        &self,
+    /// Adds the entry of a branch to a label, where there were so many operands for it. Says no where
+    /// memory is refused.
+    #[cold]
+    #[inline(never)]
+    #[tactic(auto, using(crate::proofs::ToldNotes::adds))]
+    fn add_typed<T: WasmModuleResources, B: Allocator>(
+        &mut self,
         validator: &FuncValidator<T, B>,
         at: u32,
         label: u32,
-        taken: u8,
         count: usize,
-    ) -> Option<Entry>
-        ensures { IfSome result (λ e. entry_to (T.context validator.now.resources)
-            (typed_state validator.now.validator) (shown self.now) at label (count - taken)
-            ≡ Some e) }
+    ) -> bool
+        ensures { result ≡ true → IsBranchedTo (T.context validator.now.resources)
+            (typed_state validator.now.validator) at label count (shown self.old)
+            (shown self.new) }
     {
-        let block = self.blocks.get(label as usize)?;
-        let (kept, height) = label_counts(validator, label)?;
-        let dropped = count
-            .saturating_sub(taken as usize)
-            .saturating_sub(kept)
-            .saturating_sub(height);
-        make_entry(at, block.label, kept, dropped)
+        let Some(block) = self.blocks.get(label as usize) else {
+            return false;
+        };
+        let Some((kept, height)) = validator.label_counts(label) else {
+            return false;
+        };
+        let dropped = count.saturating_sub(kept).saturating_sub(height);
+        match make_entry(at, block.label, kept, dropped) {
+            Some(entry) => self.add(entry).is_ok(),
+            None => false,
+        }
     }
 
-    /// Adds the entry of a branch to a label. Says no where memory is refused.
+    /// The same. No call is made where the label takes nothing and the entry's place is there already.
+    #[inline(always)]
+    #[tactic(auto, using(crate::proofs::ToldNotes::adds))]
+    pub(crate) fn add_to<T: WasmModuleResources, B: Allocator>(
+        &mut self,
+        validator: &FuncValidator<T, B>,
+        at: u32,
+        label: u32,
+        count: usize,
+    ) -> bool
+        ensures { result ≡ true → IsBranchedTo (T.context validator.now.resources)
+            (typed_state validator.now.validator) at label count (shown self.old)
+            (shown self.new) }
+    {
+        if let Some(block) = self.blocks.get(label as usize) {
+            if let Some(height) = validator.height_of_empty(label) {
+                if let Some(entry) = make_entry(at, block.label, 0, count.saturating_sub(height)) {
+                    if self.entries.put(entry) {
+                        return true;
+                    }
+                }
+            }
+        }
+        self.add_typed(validator, at, label, count)
+    }
+
+    /// Adds the entry of a branch to a label, where so many of the operands were taken that it isn't
+    /// given. Says no where memory is refused.
     #[inline(never)]
     #[tactic(auto, using(crate::proofs::ToldNotes::adds))]
-    fn add_to<T: WasmModuleResources, B: Allocator>(
+    fn add_behind<T: WasmModuleResources, B: Allocator>(
         &mut self,
         validator: &FuncValidator<T, B>,
         at: u64,
@@ -68,15 +100,9 @@ impl<A: Allocator> SideTable<A> {
             (typed_state validator.now.validator) at label (count - taken) (shown self.old)
             (shown self.new) }
     {
-        let Some(at) = narrow_offset(at) else {
-            return false;
-        };
-        let Some(entry) = self.entry_to(validator, at, label, taken, count) else {
-            return false;
-        };
-        match self.add(entry) {
-            Ok(()) => true,
-            Err(_) => false,
+        match narrow_offset(at) {
+            Some(at) => self.add_to(validator, at, label, count.saturating_sub(taken as usize)),
+            None => false,
         }
     }
 
@@ -104,7 +130,7 @@ impl<A: Allocator> SideTable<A> {
         let Some(label) = front.next_var_u32() else {
             return false;
         };
-        self.add_to(validator, start.original_position(), label, taken, count)
+        self.add_behind(validator, start.original_position(), label, taken, count)
     }
 
     /// A block opens behind this offset. Says no where memory is refused.

@@ -8,7 +8,6 @@ ghost use Rattle.wasm_validator_side_notes.specs.TableViews.{shown, planned_one,
 ghost use Rattle.wasm_validator_side_notes.specs.ResumeOperands.{AreSoMany, AreTaken};
 
 use crate::branches::count_operands;
-use crate::counts::label_counts;
 use crate::table::SideTable;
 use std::alloc::{AllocError, Allocator};
 use wasm_operators::{ContinuationOperator, Handle, Operator, ResumeTable};
@@ -32,7 +31,7 @@ impl<A: Allocator> SideTable<A> {
             (handling_to t label) (shown self.now) ≡ Some e) }
     {
         let block = self.blocks.get(label as usize)?;
-        let (kept, height) = label_counts(validator, label)?;
+        let (kept, height) = validator.label_counts(label)?;
         let operands = count_operands(validator)? as usize;
         let dropped = operands
             .saturating_sub(taken as usize)

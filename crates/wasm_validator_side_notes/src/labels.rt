@@ -4,9 +4,9 @@ ghost use Rattle.std.specs.Prelude.{◌≡◌, ◌<◌, ◌-◌, true, false, So
 ghost use Rattle.wasm_readers.specs.WasmReadersBytes.Reader.{SameInput, position_in, place_of_next, rest};
 ghost use Rattle.wasm_validator_resources.specs.Answers.{world};
 ghost use Rattle.wasm_typing_stacks.specs.BodyStacks.{Kept};
-ghost use Rattle.wasm_typing_validator.specs.BodyTyping.{typed_state};
-ghost use Rattle.wasm_typing_validator.specs.TypedInstructions.{within};
-ghost use Rattle.wasm_typing_validator.specs.StepsFromBytes.{stepped};
+ghost use Rattle.wasm_validator_func.specs.WasmTypingValidator.BodyTyping.{typed_state};
+ghost use Rattle.wasm_validator_func.specs.WasmTypingValidator.TypedInstructions.{within};
+ghost use Rattle.wasm_validator_func.specs.WasmTypingValidator.StepsFromBytes.{stepped};
 ghost use Rattle.wasm_validator_side_notes.specs.TableViews.{shown};
 ghost use Rattle.wasm_validator_side_notes.specs.Tables.{Advances};
 ghost use Rattle.wasm_validator_side_notes.specs.LabelEntries.{AreBranchedTo, IsBranchedByTable};
@@ -20,7 +20,7 @@ use wasm_validator_resources::WasmModuleResources;
 
 impl<A: Allocator> SideTable<A> {
     /// Adds an entry of a branch to each of so many labels that are next, where there were so many
-    /// operands. Says no where memory is refused.
+    /// operands for it. Says no where memory is refused.
     #[inline(never)]
     #[tactic(auto, using(crate::proofs::LabelNotes::adds))]
     fn add_labels<'a, T: WasmModuleResources, B: Allocator>(
@@ -33,7 +33,7 @@ impl<A: Allocator> SideTable<A> {
     ) -> bool
         ensures same { SameInput reader.old reader.new }
         ensures added { result ≡ true → AreBranchedTo (T.context validator.now.resources)
-            (typed_state validator.now.validator) at (count - 1) many (rest reader.old)
+            (typed_state validator.now.validator) at count many (rest reader.old)
             (rest reader.new) (shown self.old) (shown self.new) }
     {
         let mut ahead = *reader;
@@ -42,12 +42,8 @@ impl<A: Allocator> SideTable<A> {
             let Some(label) = ahead.next_var_u32() else {
                 return false;
             };
-            let Some(entry) = self.entry_to(validator, at, label, 1, count) else {
+            if !self.add_to(validator, at, label, count) {
                 return false;
-            };
-            match self.add(entry) {
-                Ok(()) => {}
-                Err(_) => return false,
             }
             left -= 1;
         }
@@ -70,6 +66,7 @@ impl<A: Allocator> SideTable<A> {
             (typed_state validator.now.validator) at (count - 1) (rest labels.entry)
             (shown self.old) (shown self.new) }
     {
+        let count = count.saturating_sub(1);
         let mut ahead = labels;
         let Some(many) = ahead.next_var_u32() else {
             return false;

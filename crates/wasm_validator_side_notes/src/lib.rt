@@ -4,7 +4,6 @@
 
 mod blocks;
 mod branches;
-mod counts;
 mod frequent;
 mod handlers;
 mod labels;
@@ -14,7 +13,7 @@ mod table;
 
 pub use seldom::Taken;
 pub use table::SideTable;
-pub use wasm_typing_validator::Told;
+pub use wasm_validator_func::operator_validator::Told;
 
 /// Passed on from `wasm_spec_side_tables`.
 pub mod side_tables {

@@ -4,9 +4,9 @@ ghost use Rattle.std.specs.Prelude.{◌≡◌, ◌<◌, true, false, Some, IfSom
 ghost use Rattle.wasm_readers.specs.WasmReadersBytes.Reader.{SameInput, position_in, place_of_next, rest};
 ghost use Rattle.wasm_validator_resources.specs.Answers.{world};
 ghost use Rattle.wasm_typing_stacks.specs.BodyStacks.{Kept};
-ghost use Rattle.wasm_typing_validator.specs.BodyTyping.{typed_state};
-ghost use Rattle.wasm_typing_validator.specs.TypedInstructions.{within};
-ghost use Rattle.wasm_typing_validator.specs.StepsFromBytes.{stepped};
+ghost use Rattle.wasm_validator_func.specs.WasmTypingValidator.BodyTyping.{typed_state};
+ghost use Rattle.wasm_validator_func.specs.WasmTypingValidator.TypedInstructions.{within};
+ghost use Rattle.wasm_validator_func.specs.WasmTypingValidator.StepsFromBytes.{stepped};
 ghost use Rattle.wasm_validator_side_notes.specs.TableViews.{shown};
 ghost use Rattle.wasm_validator_side_notes.specs.Tables.{Advances};
 ghost use Rattle.wasm_validator_side_notes.specs.OperatorNotes.{Foresees, IsQuiet};

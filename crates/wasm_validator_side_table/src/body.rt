@@ -26,7 +26,7 @@ use wasm_validator_side_notes::side_tables::narrow_offset;
 use wasm_validator_side_notes::validator_func::{
     FuncToValidate, FuncValidator, FuncValidatorAllocations, read_served,
 };
-use wasm_validator_side_notes::{SideTable, Taken};
+use wasm_validator_side_notes::{SideTable, Taken, Told};
 
 /// The refusal of bytes behind the end of a body, at the first of them.
 fn behind_end(offset: u64) -> Error
@@ -138,6 +138,14 @@ fn read_all<'a, T: WasmModuleResources, A: Allocator, B: Allocator>(
     'operators: while !validator.is_finished() {
         let start = ahead;
         let told = validator.told_op(&mut ahead);
+        if told.is_quiet() {
+            if !table.note_told(validator, Told::Quiet, start, ahead, count) {
+                return Err(Error::OutOfMemory);
+            }
+            count = validator.len_operands();
+            height = height.max(count);
+            continue;
+        }
         if told.is_taken() {
             if !table.note_told(validator, told, start, ahead, count) {
                 return Err(Error::OutOfMemory);

@@ -35,8 +35,8 @@ operators-init g c =
       so_far = (length (rest c.args.reader.now), omega arith, all_of (world C) (within v C) (typed_state v) (rest c.args.reader.now));
     }
 
-pub operators-preserved-then-is_taken : goal.operators-preserved-then-is_taken
-operators-preserved-then-is_taken g c =
+pub operators-preserved-then-is_quiet : goal.operators-preserved-then-is_quiet
+operators-preserved-then-is_quiet g c =
     let C = g.T.WasmModuleResources.context c.args.validator.now.resources in
     let D = g.T.WasmModuleResources.context c.operators.validator.resources in
     let E = g.T.WasmModuleResources.context c.told_op-told.new.self.resources in
@@ -53,7 +53,7 @@ operators-preserved-then-is_taken g c =
     let there : D ≡ C = ap (λ r. g.T.WasmModuleResources.context r) c.operators.invariant.resources in
     let same : c.told_op-told.new.self.resources ≡ c.args.validator.now.resources = search rules in
     let behind : E ≡ C = ap (λ r. g.T.WasmModuleResources.context r) same in
-    let taken : is_taken c.told_op-told.result ≡ true = sym c.is_taken.ensures ∙ c.if-is_taken.true in
+    let taken : is_taken c.told_op-told.result ≡ true = ap is_taken (c.is_quiet.ensures.quiet c.if-is_quiet.true) in
     let further : position_in old < position_in new = c.told_op-told.ensures.further taken in
     let before = c.operators.invariant.onward in
     let inside : SameInput old new = search rules in
@@ -66,6 +66,46 @@ operators-preserved-then-is_taken g c =
     let high : c.max-height.result ≡ max c.operators.height c.len_operands-count.result = search rules in
     record {
       reaches = table_counted C v w old c.operators.invariant.kept u c.args.reader.now new (shown c.args.table.now) T U c.operators.height c.len_operands-count.result c.max-height.result counted high c.operators.invariant.reaches advances;
+      counted = sym counted;
+      kept = kept_on v.stacks w.stacks u.stacks c.operators.invariant.kept (search rules);
+      going = search rules;
+      resources = search rules;
+      same = search rules;
+      onward = omega (arith, further, before);
+      so_far = far_more C v w old c.operators.invariant.kept far.0 all going far.2 u new far.1 inside further step;
+    }
+
+pub operators-preserved-then-is_taken : goal.operators-preserved-then-is_taken
+operators-preserved-then-is_taken g c =
+    let C = g.T.WasmModuleResources.context c.args.validator.now.resources in
+    let D = g.T.WasmModuleResources.context c.operators.validator.resources in
+    let E = g.T.WasmModuleResources.context c.told_op-told.new.self.resources in
+    let v = c.args.validator.now.validator in
+    let w = c.operators.validator.validator in
+    let u = c.told_op-told.new.self.validator in
+    let old = c.operators.ahead in
+    let new = c.told_op-told.new.reader in
+    let T = shown c.operators.table in
+    let U = shown c.note_told-then-is_taken.new.self in
+    let all = instructions_from (world C) (within v C) (typed_state v) (rest c.args.reader.now) in
+    let far = c.operators.invariant.so_far in
+    let going : is_finished (typed_state w) ≡ false = cc in
+    let there : D ≡ C = ap (λ r. g.T.WasmModuleResources.context r) c.operators.invariant.resources in
+    let same : c.told_op-told.new.self.resources ≡ c.args.validator.now.resources = search rules in
+    let behind : E ≡ C = ap (λ r. g.T.WasmModuleResources.context r) same in
+    let taken : is_taken c.told_op-told.result ≡ true = sym c.is_taken.ensures ∙ c.if-is_taken.true in
+    let further : position_in old < position_in new = c.told_op-told.ensures.further taken in
+    let before = c.operators.invariant.onward in
+    let inside : SameInput old new = search rules in
+    let took : stepped D w.stacks old ≡ Some (typed_state u, rest new) = c.told_op-told.ensures.took taken in
+    let step : stepped C w.stacks old ≡ Some (typed_state u, rest new) = subst (λ (X : Context UnpackedIndex). stepped X w.stacks old ≡ Some (typed_state u, rest new)) there took in
+    let led : LeadsOn E u old new c.operators.count T U = search (rules, tests) in
+    let leads : LeadsOn C u old new c.operators.count T U = subst (λ (X : Context UnpackedIndex). LeadsOn X u old new c.operators.count T U) behind led in
+    let advances : Advances (world C) (within w C) (typed_state w) T (place_of_next old) (rest old) (typed_state u) U (place_of_next new) (rest new) = leads.advances w inside c.operators.invariant.counted step in
+    let counted : c.len_operands-count-then-is_taken.result ≡ length (typed_state u).operands = search rules in
+    let high : c.max-height-then-is_taken.result ≡ max c.operators.height c.len_operands-count-then-is_taken.result = search rules in
+    record {
+      reaches = table_counted C v w old c.operators.invariant.kept u c.args.reader.now new (shown c.args.table.now) T U c.operators.height c.len_operands-count-then-is_taken.result c.max-height-then-is_taken.result counted high c.operators.invariant.reaches advances;
       counted = sym counted;
       kept = kept_on v.stacks w.stacks u.stacks c.operators.invariant.kept (search rules);
       going = search rules;

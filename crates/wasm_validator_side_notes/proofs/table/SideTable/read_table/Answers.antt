@@ -2,7 +2,7 @@ use Rattle.std.proofs.Common.{◌≡◌, ◌-◌, refl, ap, sym, subst, rules, t
 use Rattle.wasm_spec_rules.specs.Contexts.{Context}
 use Rattle.wasm_readers.specs.WasmReadersBytes.Reader.{rest}
 use Rattle.wasm_readers_types.specs.WasmReadersValues.declared.indices.UnpackedIndex.{UnpackedIndex}
-use Rattle.wasm_typing_validator.specs.BodyTyping.{typed_state}
+use Rattle.wasm_validator_func.specs.WasmTypingValidator.BodyTyping.{typed_state}
 use Rattle.wasm_validator_side_notes.specs.TableViews.{shown}
 use Rattle.wasm_validator_side_notes.specs.LabelEntries.{IsBranchedByTable}
 use Rattle.wasm_validator_side_notes.proofs.LabelNotes.{leads_table}
