@@ -56,3 +56,9 @@ pub fn run<R: Print + AllocGlobal>(rt: &R) -> io::Result<()> {
     }
     Ok(())
 }
+
+/// Passed on from `wasm_validator_side_table`.
+pub mod side_table {
+    pub use wasm_validator_side_table::validator_func::{FuncToValidate, FuncValidatorAllocations};
+    pub use wasm_validator_side_table::{SideTable, validate_with_side_table};
+}

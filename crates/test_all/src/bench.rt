@@ -1,6 +1,9 @@
 //! A body that is measured.
 
 use crate::row::validate;
+use examples_in_place::side_table::{
+    FuncToValidate, FuncValidatorAllocations, SideTable, validate_with_side_table,
+};
 use examples_own_module::{OwnFunction, OwnModule, OwnParts};
 use rows_files::words_behind;
 use std::alloc::{AllocError, Global};
@@ -14,8 +17,6 @@ use wasm_parser::FunctionBody;
 use wasm_readers::BinaryReader;
 use wasm_readers_errors::WasmFeatures;
 use wasm_readers_types::{FuncType, GlobalType, MemoryType, RefType, SubType, TableType, ValType};
-use wasm_validator_side_table::validator_func::{FuncToValidate, FuncValidatorAllocations};
-use wasm_validator_side_table::{SideTable, validate_with_side_table};
 
 /// The declarations of locals that the operators count on: 150 of type i32 and 150 of type i64.
 const FRONT: [u8; 7] = [2, 0x96, 1, 0x7f, 0x96, 1, 0x7e];

@@ -1,5 +1,6 @@
 use crate::operators::{OPERATOR, judge_operator};
 use crate::sample::Sample;
+use examples_in_place::side_table::{FuncToValidate, FuncValidatorAllocations};
 use examples_own_module::OwnModule;
 use rows_files::{
     Difference, Judge, NOT, Trouble, name_of, parse_digits, parse_features, take_part,
@@ -8,7 +9,6 @@ use std::alloc::{AllocError, Global};
 use wasm_parser::FunctionBody;
 use wasm_readers::{BinaryReader, Error};
 use wasm_readers_errors::WasmFeatures;
-use wasm_validator_side_table::validator_func::{FuncToValidate, FuncValidatorAllocations};
 
 /// What messages about rows of bodies and operators begin with.
 pub const NAME: &str = "rows of bodies";

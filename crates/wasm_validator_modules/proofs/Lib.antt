@@ -5,6 +5,10 @@ pub use Rattle.wasm_validator_states.proofs.Resets
 pub use Rattle.wasm_validator_states.proofs.TableSteps
 pub use Rattle.wasm_validator_states.proofs.ShownTypeIds
 pub use Rattle.wasm_validator_states.proofs.UnmovedValidators
+pub use Rattle.wasm_validator_states.proofs.ParserAndValidator
+pub use Rattle.wasm_validator_states.proofs.ParserProgress
+pub use Rattle.wasm_validator_states.proofs.UsedLaws
+pub use Rattle.wasm_validator_states.proofs.WholeModules
 pub mod Cited
 pub mod Runs
 pub mod Bodies

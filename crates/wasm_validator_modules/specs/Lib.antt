@@ -9,6 +9,7 @@ pub use Rattle.wasm_validator_states.specs.Payloads
 pub use Rattle.wasm_validator_states.specs.Verdict
 pub use Rattle.wasm_validator_states.specs.Sequences
 pub use Rattle.wasm_validator_states.specs.Table
+pub use Rattle.wasm_validator_states.specs.BodyAnswers
 pub mod Codes
 pub mod Views
 pub mod ValidatorInvariants

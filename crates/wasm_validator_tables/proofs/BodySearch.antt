@@ -17,13 +17,13 @@ use Rattle.wasm_validator_modules.specs.WasmValidatorCore.declared.error.Error.{
 use Rattle.wasm_validator_modules.specs.WasmValidatorCore.declared.error.Error.TheVariants.{Refused, DuplicateExport, InFunction, OutOfMemory}
 use Rattle.wasm_validator_modules.specs.ValidatorStages.{Standing, fresh}
 use Rattle.wasm_validator_modules.specs.States.{BodyToValidate}
-use Rattle.wasm_validator_states.specs.WasmValidatorCanonical.DistinctTypes.{AreApart}
+use Rattle.wasm_validator_modules.specs.WasmValidatorCanonical.DistinctTypes.{AreApart}
 use Rattle.wasm_validator_modules.specs.Payloads.{Validates}
 use Rattle.wasm_validator_modules.specs.WasmValidatorTypes.declared.shown.Types.{Types}
-use Rattle.wasm_validator_states.proofs.ParserAndValidator.{Together, is_on, together_step, refused_together, stuck_together}
-use Rattle.wasm_validator_states.proofs.ParserProgress.{IsOn}
-use Rattle.wasm_validator_states.proofs.UsedLaws.{used_laws}
-use Rattle.wasm_validator_states.proofs.WholeModules.{decides_refusal, decides_alone, refusal}
+use Rattle.wasm_validator_modules.proofs.ParserAndValidator.{Together, is_on, together_step, refused_together, stuck_together}
+use Rattle.wasm_validator_modules.proofs.ParserProgress.{IsOn}
+use Rattle.wasm_validator_modules.proofs.UsedLaws.{used_laws}
+use Rattle.wasm_validator_modules.proofs.WholeModules.{decides_refusal, decides_alone, refusal}
 use Rattle.wasm_validator_modules.specs.PayloadAnswers.{IsRefused, bodies_given, latest_of}
 use Rattle.wasm_validator_modules.proofs.Runs.{Progress, begun, has_taken, progress-step, refused_whole, refused_format, rejected_payload}
 use Rattle.wasm_validator_modules.specs.declared.payload.ValidPayload.{ValidPayload}

@@ -19,9 +19,9 @@ use Rattle.wasm_validator_modules.specs.Payloads.{HasTaken, IsBodyOfIts, Runs}
 use Rattle.wasm_validator_modules.specs.Verdict.{DecidesModule, DecidesAlone}
 use Rattle.wasm_validator_modules.specs.WasmValidatorTypes.declared.shown.Types.{Types}
 use Rattle.wasm_validator_modules.specs.WasmValidatorCore.declared.error.Error.{Error}
-use Rattle.wasm_validator_states.proofs.ParserAndValidator.{Together, together_step}
-use Rattle.wasm_validator_states.proofs.UsedLaws.{used_laws}
-use Rattle.wasm_validator_states.proofs.WholeModules.{decides_whole, decides_alone}
+use Rattle.wasm_validator_modules.proofs.ParserAndValidator.{Together, together_step}
+use Rattle.wasm_validator_modules.proofs.UsedLaws.{used_laws}
+use Rattle.wasm_validator_modules.proofs.WholeModules.{decides_whole, decides_alone}
 use Rattle.wasm_validator_modules.specs.PayloadAnswers.{ShowsModule, GivenEndBy, EndsBy, bodies_given, latest_of}
 use Rattle.wasm_validator_modules.proofs.Runs.{Progress, begun, has_taken, has_ended, accepted, progress-step}
 use Rattle.wasm_validator_modules.specs.declared.payload.ValidPayload.{ValidPayload}

@@ -11,7 +11,7 @@ use Rattle.wasm_validator_modules.specs.ValidatorStages.{Standing, fresh}
 use Rattle.wasm_validator_modules.specs.States.{BodyToValidate, after_piece, handed}
 use Rattle.wasm_validator_modules.specs.Payloads.{HasTaken, IsBodyOfIts, after_all, all_handed}
 use Rattle.wasm_validator_modules.specs.Verdict.{AreNoneUpToBodies}
-use Rattle.wasm_validator_states.specs.BodyAnswers.{body_seen}
+use Rattle.wasm_validator_modules.specs.BodyAnswers.{body_seen}
 use Rattle.wasm_validator_modules.specs.PayloadAnswers.{ShowsModule, EndsBy, bodies_given}
 use Rattle.wasm_validator_modules.specs.declared.payload.ValidPayload.{ValidPayload}
 use Rattle.wasm_validator_side_table.specs.WasmValidatorSideNotes.Tables.{IsTableOf}

@@ -10,7 +10,7 @@ use Rattle.wasm_validator_modules.specs.ValidatorStages.{Standing, fresh}
 use Rattle.wasm_validator_modules.specs.States.{BodyToValidate, after_piece, handed}
 use Rattle.wasm_validator_modules.specs.Payloads.{IsBodyOfIts, after_all, all_handed}
 use Rattle.wasm_validator_modules.specs.Verdict.{DecidesAlone}
-use Rattle.wasm_validator_states.specs.BodyAnswers.{body_seen}
+use Rattle.wasm_validator_modules.specs.BodyAnswers.{body_seen}
 use Rattle.wasm_validator_modules.specs.PayloadAnswers.{ShowsModule, GivenEndBy, bodies_given, latest_of}
 use Rattle.wasm_validator_modules.specs.declared.payload.ValidPayload.{ValidPayload}
 use Rattle.wasm_validator_modules.specs.declared.payload.ValidPayload.TheVariants as payload

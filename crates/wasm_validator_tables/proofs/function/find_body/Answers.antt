@@ -2,7 +2,7 @@ use Rattle.std.proofs.Common.{◌≡◌, ◌∙◌, ◌≤◌, arith, length}
 use Rattle.wasm_parser.specs.Places.{ends_at, input_end}
 use Rattle.wasm_parser.specs.PayloadViews.{seen, state}
 use Rattle.wasm_parser.proofs.PieceCounts.{falls}
-use Rattle.wasm_validator_states.proofs.ParserProgress.{refused_nothing}
+use Rattle.wasm_validator_modules.proofs.ParserProgress.{refused_nothing}
 use Rattle.wasm_validator_tables.proofs.BodySearch.{same_end, before_more, body_in, no_body, refused_payload, refused_bytes, is_going_on}
 use Rattle.wasm_validator_tables.proofs.function.find_body.Goals as goal
 
