@@ -8,12 +8,8 @@ use Rattle.wasm_typing_stacks.specs.SeenBlocks.{frame_of, frames_seen}
 use Rattle.wasm_typing_stacks.specs.declared.word.Word.{Word}
 use Rattle.wasm_typing_stacks.specs.declared.stacks.Frame.{Frame}
 
--- all but those that are left
-left_over : (n k : ℕ) → k ≤ n → n - (n - k) ≡ k
-left_over n k h = omega arith
-
-pub taken_away : (ops : List Word) (n k : ℕ) → n ≡ length ops → k ≤ n → map operand_of (drop (length ops - (n - k)) ops) ≡ drop k (map operand_of ops)
-taken_away ops n k e h = rw (← e, left_over n k h) (sym (drop-map operand_of k ops))
+pub taken_away : (ops : List Word) (k : ℕ) → map operand_of (drop k ops) ≡ drop k (map operand_of ops)
+taken_away ops k = sym (drop-map operand_of k ops)
 
 pub ruleset takes = (taken_away, length-map)
 

@@ -85,28 +85,16 @@ impl<T: Copy + Drop, A: Allocator> Stack<T, A> {
         }
     }
 
-    /// Puts an item on top where there is a place for it already, and says whether it did.
-    #[inline(always)]
-    #[tactic(auto, using(crate::proofs::ReversedLists::pushes))]
-    pub fn put(&mut self, item: T) -> bool
-        ensures there { result ≡ true → self.new ≡ item ∷ self.old }
-        ensures left { result ≡ false → self.new ≡ self.old }
-    {
-        if self.count < self.vec.len() {
-            self.vec[self.count] = item;
-            self.count += 1;
-            return true;
-        }
-        false
-    }
-
     /// Puts an item on top.
     #[inline(always)]
+    #[tactic(auto, using(crate::proofs::ReversedLists::pushes))]
     pub fn push(&mut self, item: T) -> Result<(), AllocError>
         ensures ok { OnOk result (self.new ≡ item ∷ self.old) }
         ensures err { OnErr result (self.new ≡ self.old) }
     {
-        if self.put(item) {
+        if self.count < self.vec.len() {
+            self.vec[self.count] = item;
+            self.count += 1;
             return Ok(());
         }
         // A copy is lent, so that the item itself can be kept in registers.
@@ -127,6 +115,16 @@ impl<T: Copy + Drop, A: Allocator> Stack<T, A> {
         let top = self.vec[self.count - 1];
         self.count -= 1;
         Some(top)
+    }
+
+    /// Takes so many items from the top.
+    #[inline(always)]
+    #[tactic(auto, using(crate::proofs::ReversedLists::discards))]
+    pub fn discard(&mut self, taken: usize)
+        requires { taken ≤ length self.old }
+        ensures { self.new ≡ drop taken self.old }
+    {
+        self.count -= taken;
     }
 
     /// Takes items from the top until so many are left.

@@ -89,8 +89,7 @@ impl<A: Allocator> Stacks<A> {
         ensures open { self.new.is_open ≡ self.old.is_open }
         ensures same { Kept self.old self.new }
     {
-        let count = self.operands.len() - taken;
-        self.operands.truncate(count);
+        self.operands.discard(taken);
     }
 
     /// Gives an operand. Where memory is refused, all stays.
