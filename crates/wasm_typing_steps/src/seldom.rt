@@ -189,10 +189,29 @@ pub fn is_seldom(opcode: u8) -> bool {
     }
 }
 
+/// The operator of this opcode, if it is `else`, `end` or `select`, or one on tables, memories or
+/// references.
+#[inline(always)]
+#[tactic(auto, unfolding(crate::proofs::Cited::plain_from, crate::proofs::Cited::control_from, crate::proofs::Cited::parametric_from))]
+fn next_plain<'a>(reader: &mut BinaryReader<'a>, opcode: u8) -> Option<Operator<'a>>
+    ensures same { SameInput reader.old reader.new }
+    ensures onward { position_in reader.old ≤ position_in reader.new }
+    ensures below { OnSome result (opcode < 0xfb) }
+    ensures some { IfSome result (λ op. plain_from written opcode (rest reader.old)
+        ≡ Some (operator_of op, rest reader.new)) }
+{
+    match opcode {
+        0x05 => Some(Operator::Control(ControlOperator::Else)),
+        0x0b => Some(Operator::Control(ControlOperator::End)),
+        0x1b => Some(Operator::Parametric(ParametricOperator::Select)),
+        _ => next_on_values(reader, opcode),
+    }
+}
+
 /// The next operator, if it is one that compilers write less often. Else the reader may stand
 /// anywhere in its input.
 #[inline]
-#[tactic(auto, unfolding(crate::proofs::Cited::instruction_at, crate::proofs::Cited::plain_from, crate::proofs::Cited::prefixed_from, crate::proofs::Cited::control_from, crate::proofs::Cited::parametric_from))]
+#[tactic(auto, unfolding(crate::proofs::Cited::instruction_at, crate::proofs::Cited::prefixed_from))]
 pub fn next_seldom<'a>(reader: &mut BinaryReader<'a>) -> Option<Operator<'a>>
     ensures same { SameInput reader.old reader.new }
     ensures some { IfSome result (λ op. instruction_at written (rest reader.old)
@@ -200,13 +219,10 @@ pub fn next_seldom<'a>(reader: &mut BinaryReader<'a>) -> Option<Operator<'a>>
     ensures further { OnSome result (position_in reader.old < position_in reader.new) }
 {
     match reader.next_u8()? {
-        0x05 => Some(Operator::Control(ControlOperator::Else)),
-        0x0b => Some(Operator::Control(ControlOperator::End)),
-        0x1b => Some(Operator::Parametric(ParametricOperator::Select)),
         0xfc => {
             let code = reader.next_var_u32()?;
             next_bulk(reader, code)
         }
-        opcode => next_on_values(reader, opcode),
+        opcode => next_plain(reader, opcode),
     }
 }
