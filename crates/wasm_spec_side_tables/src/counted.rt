@@ -115,31 +115,18 @@ impl<T: Copy + Drop, A: Allocator> Counted<T, A> {
         Ok(())
     }
 
-    /// Puts an item twice behind the others where there are two places for it already, and says
-    /// whether it did.
+    /// Puts an item twice behind the others. Where memory is refused, all stays.
     #[inline(always)]
     #[tactic(auto, using(crate::proofs::CountedLists::pairs))]
-    pub fn put_twice(&mut self, item: T) -> bool
-        ensures there { result ≡ true → self.new ≡ self.old ++ item ∷ item ∷ [] }
-        ensures left { result ≡ false → self.new ≡ self.old }
+    pub fn push_twice(&mut self, item: T) -> Result<(), AllocError>
+        ensures ok { OnOk result (self.new ≡ self.old ++ item ∷ item ∷ []) }
+        ensures err { OnErr result (self.new ≡ self.old) }
     {
         let count = self.count;
         if 2 <= self.vec.len() - count {
             self.vec[count] = item;
             self.vec[count + 1] = item;
             self.count = count + 2;
-            return true;
-        }
-        false
-    }
-
-    /// Puts an item twice behind the others. Where memory is refused, all stays.
-    #[inline(always)]
-    pub fn push_twice(&mut self, item: T) -> Result<(), AllocError>
-        ensures ok { OnOk result (self.new ≡ self.old ++ item ∷ item ∷ []) }
-        ensures err { OnErr result (self.new ≡ self.old) }
-    {
-        if self.put_twice(item) {
             return Ok(());
         }
         let copy = item;

@@ -106,6 +106,7 @@ impl<A: Allocator> SideTable<A> {
         ensures going { validator.new.validator.failed ≡ false }
         ensures kept { Kept validator.old.validator.stacks validator.new.validator.stacks }
         ensures resources { validator.new.resources ≡ validator.old.resources }
+        ensures index { validator.new.index ≡ validator.old.index }
         ensures input { SameInput reader.old reader.new }
     {
         let mut labels = *reader;

@@ -30,8 +30,7 @@ pub enum Taken {
     NoMemory,
 }
 
-/// Whether an operator with this first byte is known to branch nowhere and to leave the blocks as
-/// they are.
+/// Whether an operator with this first byte branches nowhere and leaves the blocks as they are.
 #[tactic(auto, using(crate::proofs::Opcodes::quiets))]
 fn is_quiet(opcode: u8) -> bool
     ensures { result ≡ true → IsQuiet opcode }
@@ -105,6 +104,7 @@ impl<A: Allocator> SideTable<A> {
         ensures going { validator.new.validator.failed ≡ false }
         ensures kept { Kept validator.old.validator.stacks validator.new.validator.stacks }
         ensures resources { validator.new.resources ≡ validator.old.resources }
+        ensures index { validator.new.index ≡ validator.old.index }
         ensures input { SameInput reader.old reader.new }
     {
         let Some(at) = narrow_offset(reader.original_position()) else {
