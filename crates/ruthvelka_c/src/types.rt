@@ -15,8 +15,8 @@ use crate::report::{Report, report_counts};
 use std::alloc::Global;
 use wasm_validator_handles::validator::ValType;
 use wasm_validator_handles::{
-    ExternType, Handle, Kept, Signature, ValueType, find_signature, gather_externs, item_at,
-    tell_value, write_bytes,
+    ExternType, Handle, Kept, Signature, ValueType, find_signature, gather_externs, tell_value,
+    write_bytes,
 };
 
 /// How many values a function takes and gives. C reads it as part of `struct ruthvelka_signature`.
@@ -82,9 +82,7 @@ fn write_types(to: &mut [ExternType], given: &[ExternType])
     ensures { TypesTell given.now to.old to.new }
 {
     let most = to.len().min(given.len());
-    'types: for k in 0..most {
-        to[k] = item_at(given, k);
-    }
+    to[..most].copy_from_slice(&given[..most]);
 }
 
 /// Tells how many values a function of the type with this id takes and gives, and writes them, as far

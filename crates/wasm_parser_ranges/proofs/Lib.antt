@@ -1,4 +1,3 @@
 mod Pieces
 mod SectionPlaces
-mod Fronts
 mod NameSections

@@ -86,7 +86,5 @@ fn write_front<T: Copy>(to: &mut [T], given: &[T])
     ensures { StandIn given.now to.old to.new }
 {
     let most = to.len().min(given.len());
-    'items: for k in 0..most {
-        to[k] = given[k];
-    }
+    to[..most].copy_from_slice(&given[..most]);
 }

@@ -28,9 +28,7 @@ pub fn write_bytes(to: &mut [u8], given: &[u8])
     ensures { AreWritten given.now to.old to.new }
 {
     let most = to.len().min(given.len());
-    'bytes: for k in 0..most {
-        to[k] = given[k];
-    }
+    to[..most].copy_from_slice(&given[..most]);
 }
 
 /// Writes as many of these numbers as there is room for.
@@ -38,9 +36,7 @@ pub fn write_numbers(to: &mut [u32], given: &[u32])
     ensures { AreWritten given.now to.old to.new }
 {
     let room = to.len().min(given.len());
-    'numbers: for k in 0..room {
-        to[k] = given[k];
-    }
+    to[..room].copy_from_slice(&given[..room]);
 }
 
 /// Writes the ids of the module's types, as far as there is room.

@@ -1,3 +1,2 @@
 mod BodySearch
-mod ItemWrites
 mod TablesMade

@@ -1,6 +1,6 @@
 //! What is told of a table without ownership.
 
-ghost use Rattle.std.specs.Prelude.{◌≡◌, ◌<◌, length, slice_get, IfErr, OnOk, OnErr, Some};
+ghost use Rattle.std.specs.Prelude.{◌≡◌, IfErr, OnOk, OnErr};
 ghost use Rattle.wasm_validator_tables.specs.FunctionTables.{Tells};
 ghost use Rattle.wasm_validator_tables.specs.TableReports.{AreWritten, IsTold, Stays, counts_in};
 
@@ -74,14 +74,5 @@ pub fn write_all<T: Copy>(to: &mut [T], given: &[T])
     ensures { AreWritten given.now to.old to.new }
 {
     let most = to.len().min(given.len());
-    'items: for k in 0..most {
-        to[k] = item_at(given, k);
-    }
-}
-
-fn item_at<T: Copy>(given: &[T], k: usize) -> T
-    requires { k < length given.now }
-    ensures { slice_get given.now k ≡ Some result }
-{
-    given[k]
+    to[..most].copy_from_slice(&given[..most]);
 }
