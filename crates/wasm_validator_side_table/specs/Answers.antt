@@ -1,10 +1,13 @@
 -- What the answer of a side table says of its body.
-use Rattle.std.specs.Prelude.{◌≤◌, ◌<◌, ◌^◌, ◌+◌, ℕ, length, Result, Ok, Err, ⊤}
+use Rattle.std.specs.Prelude.{◌≡◌, ◌≤◌, ◌<◌, ◌^◌, ◌+◌, ℕ, true, false, length, Result, Ok, Err, ⊤}
 use Rattle.wasm_readers_errors.specs.declared.error.Error.{Error}
 use Rattle.wasm_readers_errors.specs.declared.error.Error.TheVariants as error
 use Rattle.wasm_readers.specs.WasmReadersBytes.Reader.{place_of_next, rest}
 use Rattle.wasm_readers.specs.WasmReadersBytes.declared.binary_reader.BinaryReader.{BinaryReader}
+use Rattle.wasm_validator_side_notes.specs.WasmTypingValidator.WasmSpecSteps.Steps.{is_finished}
+use Rattle.wasm_validator_side_notes.specs.WasmTypingValidator.BodyTyping.{typed_state}
 use Rattle.wasm_validator_side_notes.specs.WasmValidatorFunc.Functions.{StandsInOrFirst}
+use Rattle.wasm_validator_side_notes.specs.WasmValidatorFunc.declared.func_validator.FuncValidator.{FuncValidator}
 use Rattle.wasm_validator_side_table.specs.declared.error.SideTableError.{SideTableError}
 use Rattle.wasm_validator_side_table.specs.declared.error.SideTableError.TheVariants.{Refused, OutOfMemory, TooLarge}
 
@@ -24,6 +27,10 @@ Makes P r (Ok x) = P × (end_of r < 2 ^ 32)
 Makes P r (Err (Refused f)) = P → ⊥
 Makes P r (Err OutOfMemory) = ⊤
 Makes P r (Err TooLarge) = P × (2 ^ 32 ≤ end_of r)
+
+-- the validator behind a body that it validated, by these look-ups and with this index: nothing was refused, and every frame has ended
+abbrev pub IsBehind : {T A : Type 0} → T → ℕ → FuncValidator T A → Type 0
+IsBehind resources n v = (v.resources ≡ resources) × (v.index ≡ n) × (v.validator.failed ≡ false) × (is_finished (typed_state v.validator) ≡ true)
 
 -- a refusal stands where that of the body's validation does
 abbrev pub StandsSo : BinaryReader → SideTableError → Type 0

@@ -12,7 +12,7 @@ ghost use Rattle.wasm_validator_side_notes.specs.WasmTypingValidator.StepsFromBy
 ghost use Rattle.wasm_validator_side_notes.specs.WasmValidatorFunc.Bodies.{instructions_from};
 ghost use Rattle.wasm_validator_side_notes.specs.WasmValidatorFunc.Functions.{IsFunctionBody};
 ghost use Rattle.wasm_validator_side_notes.specs.WasmValidatorFunc.BodyValidation.{body_in, Validates};
-ghost use Rattle.wasm_validator_side_table.specs.Answers.{Makes, StandsSo, end_of};
+ghost use Rattle.wasm_validator_side_table.specs.Answers.{IsBehind, Makes, StandsSo, end_of};
 ghost use Rattle.wasm_validator_side_notes.specs.TableViews.{shown};
 ghost use Rattle.wasm_validator_side_notes.specs.Tables.{Advances, Reaches, HasRead, IsTableOf, IsEmptyTable};
 
@@ -54,6 +54,7 @@ fn read_one<'a, T: WasmModuleResources, A: Allocator, B: Allocator>(
     ensures going { OnOk result (validator.new.validator.failed ≡ false) }
     ensures kept { Kept validator.old.validator.stacks validator.new.validator.stacks }
     ensures resources { validator.new.resources ≡ validator.old.resources }
+    ensures index { validator.new.index ≡ validator.old.index }
     ensures input { SameInput reader.old reader.new }
     ensures further { OnOk result (position_in reader.old < position_in reader.new) }
     ensures place { IfErr result (StandsIn reader.old) }
@@ -95,6 +96,7 @@ fn read_left<'a, T: WasmModuleResources, A: Allocator, B: Allocator>(
     ensures going { OnOk result (validator.new.validator.failed ≡ false) }
     ensures kept { Kept validator.old.validator.stacks validator.new.validator.stacks }
     ensures resources { validator.new.resources ≡ validator.old.resources }
+    ensures index { validator.new.index ≡ validator.old.index }
     ensures input { SameInput reader.old reader.new }
     ensures further { OnOk result (position_in reader.old < position_in reader.new) }
     ensures place { IfErr result (StandsIn reader.old) }
@@ -128,6 +130,8 @@ fn read_all<'a, T: WasmModuleResources, A: Allocator, B: Allocator>(
         (typed_state validator.old.validator) (rest reader.old))
         (typed_state validator.new.validator) (rest reader.new) }
     ensures kept { Kept validator.old.validator.stacks validator.new.validator.stacks }
+    ensures behind { OnOk result (IsBehind validator.old.resources validator.old.index
+        validator.new) }
     ensures input { SameInput reader.old reader.new }
     ensures onward { position_in reader.old ≤ position_in reader.new }
     ensures place { IfErr result (StandsIn reader.old) }
@@ -186,6 +190,8 @@ fn read_body<T: WasmModuleResources, A: Allocator, B: Allocator>(
     ensures took { Validates result (body_in validator.old.validator
         (T.context validator.old.resources) (body_of body.now))
         (locals_in validator.new.validator) (typed_state validator.new.validator) }
+    ensures behind { OnOk result (IsBehind validator.old.resources validator.old.index
+        validator.new) }
     ensures place { IfErr result (StandsIn (body_reader body.now)) }
 {
     let mut reader = body.get_binary_reader();
@@ -239,6 +245,7 @@ fn make_next<T: WasmModuleResources + Drop, A: Allocator, B: Allocator>(
     ensures decides { Makes (IsFunctionBody (features_of function.features)
         (T.context function.resources) function.ty (body_of body.now))
         (body_reader body.now) result }
+    ensures behind { OnOk result (IsBehind function.resources function.index validator.new) }
     ensures place { IfErr result (StandsSo (body_reader body.now)) }
 {
     match table.begin() {
@@ -269,7 +276,7 @@ fn make_next<T: WasmModuleResources + Drop, A: Allocator, B: Allocator>(
 /// # Errors
 ///
 /// Refused exactly where [`FuncToValidate::validate`] refuses the body, and where memory is. The
-/// table is empty then. The validator may begin another body all the same.
+/// table is empty then, and the validator of no use until it begins another body.
 pub fn validate_next_with_side_table<T: WasmModuleResources + Drop, A: Allocator, B: Allocator>(
     validator: &mut FuncValidator<T, B>,
     function: FuncToValidate<T>,
@@ -283,6 +290,7 @@ pub fn validate_next_with_side_table<T: WasmModuleResources + Drop, A: Allocator
     ensures decides { Makes (IsFunctionBody (features_of function.features)
         (T.context function.resources) function.ty (body_of body.now))
         (body_reader body.now) result }
+    ensures behind { OnOk result (IsBehind function.resources function.index validator.new) }
     ensures place { IfErr result (StandsSo (body_reader body.now)) }
     ensures empty { OnErr result (IsEmptyTable table.new) }
 {

@@ -18,6 +18,7 @@ invariant-operators g l = record {
   kept : Kept l.initial.validator.validator.stacks l.validator.validator.stacks;
   going : l.validator.validator.failed ≡ false;
   resources : l.validator.resources ≡ l.initial.validator.resources;
+  index : l.validator.index ≡ l.initial.validator.index;
   same : SameInput l.initial.ahead l.ahead;
   onward : position_in l.initial.ahead ≤ position_in l.ahead;
   so_far : (most : ℕ) × (length (rest l.ahead) ≤ most)
