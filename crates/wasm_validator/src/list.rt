@@ -13,9 +13,9 @@ use wasm_validator_modules::payload::answer_all;
 use wasm_validator_modules::{Error, Types, Validator};
 
 /// Checks modules one after another, each after a `reset`, and gives the answer on each that was
-/// looked at, in their order. The last one is the first whose payloads are not all accepted; that
-/// of a module that is refused only for a function's body is not. The types of an accepted module
-/// name only ids of their list.
+/// looked at, in their order. Behind the first one whose payloads are not all accepted no other is
+/// looked at; a module that is refused only for a function's body doesn't end the list. The types of
+/// an accepted module name only ids of their list.
 ///
 /// # Errors
 ///
