@@ -1,4 +1,4 @@
-/* Reading a file, for the examples. */
+/* Reading a file, and printing what a module calls something, for the examples. */
 #include <stdint.h>
 #include <stdio.h>
 #include <stdlib.h>
@@ -16,4 +16,9 @@ static uint8_t *read_file(const char *name, size_t *length) {
     }
     fclose(file);
     return bytes;
+}
+
+/* Prints a text that may hold a module's own names: `?` in place of all but the printable characters of ASCII, so that no name ends the line. */
+static inline void print_escaped(const char *text, size_t length) {
+    for (size_t i = 0; i < length; i++) putchar(' ' <= text[i] && text[i] <= '~' ? text[i] : '?');
 }

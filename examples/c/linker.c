@@ -51,8 +51,8 @@ static int link_all(const struct ruthvelka_bytes *modules, const struct side *ex
     if (ruthvelka_validate_list_with_queries(modules, 2, RUTHVELKA_STANDARD, NULL, 0, queries, imports->count) != RUTHVELKA_VALID) return 2;
     for (uint32_t i = 0; i < imports->count; i++) {
         const struct ruthvelka_extern *it = &imports->externs[i];
-        printf("%.*s.%.*s: %s\n", (int)it->module_length, imports->names + it->module_start, (int)it->name_length,
-            imports->names + it->name_start, words[queries[i].answer]);
+        print_escaped(imports->names + it->module_start, it->module_length), putchar('.');
+        print_escaped(imports->names + it->name_start, it->name_length), printf(": %s\n", words[queries[i].answer]);
     }
     free(queries);
     return 0;

@@ -42,8 +42,8 @@ static void link_import(struct loaded *modules, int count, uint32_t number) {
             answer = ruthvelka_types_entity_may_be_given(&modules[it].types, found, &importer->types, number) == RUTHVELKA_YES ? "linked"
                                                                                                                             : "not linked";
         }
-    printf("%.*s.%.*s: %s\n", (int)wanted->module_length, importer->names + wanted->module_start, (int)wanted->name_length,
-        importer->names + wanted->name_start, answer);
+    print_escaped(importer->names + wanted->module_start, wanted->module_length), putchar('.');
+    print_escaped(importer->names + wanted->name_start, wanted->name_length), printf(": %s\n", answer);
 }
 
 /* Loads one module behind the others. The validator sees only what is valid by itself, so no module can make it fail. */

@@ -1,4 +1,5 @@
-// Reading a file, for the examples.
+// Reading a file, and what a module calls something as it can be printed, for the examples.
+#include <algorithm>
 #include <fstream>
 #include <iostream>
 #include <iterator>
@@ -13,4 +14,10 @@ inline std::vector<uint8_t> read_file(const std::string &name) {
         std::exit(2);
     }
     return std::vector<uint8_t>((std::istreambuf_iterator<char>(file)), std::istreambuf_iterator<char>());
+}
+
+// A text that may hold a module's own names: `?` in place of all but the printable characters of ASCII, so that no name ends the line.
+inline std::string escaped(std::string text) {
+    std::replace_if(text.begin(), text.end(), [](char it) { return it < ' ' || '~' < it; }, '?');
+    return text;
 }

@@ -1,7 +1,6 @@
-// gate FILE..: an admission gate in C++. Each file is let in exactly where it is a valid module.
+// gate FILE..: an admission gate in C++. Each file is let in exactly where it is a valid module, within the limits for modules of strangers.
 #include <ruthvelka.h>
 
-#include <algorithm>
 #include <cstdlib>
 
 #include "files.hpp"
@@ -10,18 +9,19 @@ int main(int count, char **names) {
     bool all = true;
     for (int i = 1; i < count; i++) {
         const auto bytes = read_file(names[i]);
-        ruthvelka_report report;
+        ruthvelka_outcome outcome{};
+        outcome.size = sizeof outcome;
         std::string text(256, ' ');
-        const auto verdict = ruthvelka_validate(bytes.data(), bytes.size(), RUTHVELKA_STANDARD, &text[0], text.size(), &report);
-        text.resize(std::min<size_t>(text.size(), report.message_length));
-        if (verdict == RUTHVELKA_VALID)
-            std::cout << names[i] << ": ok types " << report.types << " functions " << report.functions << " imports " << report.imports
-                      << " exports " << report.exports << "\n";
-        else if (verdict == RUTHVELKA_REFUSED)
-            std::cout << names[i] << ": refused at " << report.offset << ": " << text << "\n";
+        const auto status = ruthvelka_check(bytes.data(), bytes.size(), RUTHVELKA_STANDARD | RUTHVELKA_CRATE_LIMITS, &text[0], text.size(), &outcome);
+        text.resize(std::min<size_t>(text.size(), outcome.message_length));
+        if (status == RUTHVELKA_STATUS_VALID)
+            std::cout << names[i] << ": ok types " << outcome.types << " functions " << outcome.functions << " imports " << outcome.imports
+                      << " exports " << outcome.exports << "\n";
+        else if (status == RUTHVELKA_STATUS_REFUSED)
+            std::cout << names[i] << ": refused at " << outcome.offset << ": " << escaped(text) << "\n";
         else
             std::cout << names[i] << ": out of memory\n";
-        all = all && verdict == RUTHVELKA_VALID;
+        all = all && status == RUTHVELKA_STATUS_VALID;
     }
     return all ? 0 : 1;
 }

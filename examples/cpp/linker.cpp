@@ -51,7 +51,7 @@ int main(int count, char **names) {
     if (ruthvelka_validate_list_with_queries(modules, 2, RUTHVELKA_STANDARD, nullptr, 0, queries.data(), queries.size()) != RUTHVELKA_VALID) return 2;
     const char *const words[] = {"not linked", "linked", "not exported"};
     for (size_t i = 0; i < queries.size(); i++)
-        std::cout << importer.module_of(importer.imports[i]) << "." << importer.name_of(importer.imports[i]) << ": " << words[queries[i].answer]
-                  << "\n";
+        std::cout << escaped(importer.module_of(importer.imports[i])) << "." << escaped(importer.name_of(importer.imports[i])) << ": "
+                  << words[queries[i].answer] << "\n";
     return 0;
 }

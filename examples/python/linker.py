@@ -8,6 +8,11 @@ from ruthvelka import Answer, Query, QueryKind, ask, imports_and_exports
 WORDS = {Answer.NO: "not linked", Answer.YES: "linked", Answer.UNKNOWN: "not exported"}
 
 
+def escaped(text):
+    """A text that may hold a module's own names: `?` in place of all but the printable characters of ASCII, so that no name ends the line."""
+    return "".join(it if " " <= it <= "~" else "?" for it in str(text))
+
+
 def main():
     modules = []
     for name in sys.argv[1:3]:
@@ -17,7 +22,7 @@ def main():
     places = {it.name: place for place, it in enumerate(exports)}
     queries = [Query(QueryKind.MAY_BE_GIVEN, 0, places.get(it.name, len(exports)), 1, wanted) for wanted, it in enumerate(imports)]
     for it, answer in zip(imports, ask(modules, queries)):
-        print(f"{it.module}.{it.name}: {WORDS[answer]}")
+        print(f"{escaped(it.module)}.{escaped(it.name)}: {WORDS[answer]}")
 
 
 if __name__ == "__main__":

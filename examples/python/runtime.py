@@ -7,6 +7,11 @@ import sys
 from ruthvelka import Refused, Validator, imports_and_exports, validate
 
 
+def escaped(text):
+    """A text that may hold a module's own names: `?` in place of all but the printable characters of ASCII, so that no name ends the line."""
+    return "".join(it if " " <= it <= "~" else "?" for it in str(text))
+
+
 def link(loaded, types, number, name):
     """What becomes of this import of the last module."""
     for given, exports in reversed(loaded):
@@ -22,7 +27,7 @@ def load(validator, data, loaded):
     types = validator.validate(data)
     imports, exports = imports_and_exports(data)
     for number, it in enumerate(imports):
-        print(f"{it.module}.{it.name}: {link(loaded, types, number, it.name)}")
+        print(f"{escaped(it.module)}.{escaped(it.name)}: {link(loaded, types, number, it.name)}")
     loaded.append((types, exports))
 
 

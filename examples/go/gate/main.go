@@ -1,4 +1,4 @@
-// gate FILE..: an admission gate. Each file is let in exactly where it is a valid module.
+// gate FILE..: an admission gate. Each file is let in exactly where it is a valid module, within the limits for modules of strangers.
 package main
 
 import (
@@ -16,7 +16,7 @@ func main() {
 			fmt.Fprintf(os.Stderr, "gate: cannot read %s\n", name)
 			os.Exit(2)
 		}
-		it, err := ruthvelka.Validate(data, ruthvelka.Standard)
+		it, err := ruthvelka.Validate(data, ruthvelka.Standard|ruthvelka.CrateLimits)
 		if err != nil {
 			fmt.Printf("%s: %v\n", name, err)
 			status = 1

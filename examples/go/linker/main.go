@@ -6,6 +6,7 @@ import (
 	"fmt"
 	"os"
 
+	"ruthvelka.example/examples/names"
 	"ruthvelka.example/ruthvelka"
 )
 
@@ -37,6 +38,6 @@ func main() {
 	}
 	words := map[ruthvelka.Answer]string{ruthvelka.No: "not linked", ruthvelka.Yes: "linked", ruthvelka.Unknown: "not exported"}
 	for i, answer := range must(ruthvelka.Ask(modules, ruthvelka.Standard, queries)) {
-		fmt.Printf("%s.%s: %s\n", imports[i].Module, imports[i].Name, words[answer])
+		fmt.Printf("%s.%s: %s\n", names.Escaped(imports[i].Module), names.Escaped(imports[i].Name), words[answer])
 	}
 }

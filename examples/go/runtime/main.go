@@ -7,6 +7,7 @@ import (
 	"fmt"
 	"os"
 
+	"ruthvelka.example/examples/names"
 	"ruthvelka.example/ruthvelka"
 )
 
@@ -46,7 +47,7 @@ func load(validator *ruthvelka.Validator, data []byte, modules []loaded) ([]load
 		return modules, err
 	}
 	for number, it := range imports {
-		fmt.Printf("%s.%s: %s\n", it.Module, it.Name, link(modules, types, number, it.Name))
+		fmt.Printf("%s.%s: %s\n", names.Escaped(it.Module), names.Escaped(it.Name), link(modules, types, number, it.Name))
 	}
 	return append(modules, loaded{types, exports}), nil
 }

@@ -1,6 +1,6 @@
-//! `gate FILE..`: an admission gate. Each file is let in exactly where it is a valid module.
+//! `gate FILE..`: an admission gate. Each file is let in exactly where it is a valid module, within the limits for modules of strangers.
 
-use ruthvelka::Validator;
+use ruthvelka::{Validator, WasmFeatures};
 use std::process::ExitCode;
 
 fn main() -> ExitCode {
@@ -10,7 +10,7 @@ fn main() -> ExitCode {
             eprintln!("gate: cannot read {name}");
             return ExitCode::from(2);
         };
-        match Validator::new().validate_all(&bytes) {
+        match Validator::new_with_features(WasmFeatures::STANDARD | WasmFeatures::CRATE_LIMITS).validate_all(&bytes) {
             Ok(it) => {
                 let (types, functions) = (it.core_type_count_in_module(), it.function_count());
                 println!("{name}: ok types {types} functions {functions} imports {} exports {}", it.import_count(), it.export_count());

@@ -3,6 +3,11 @@
 
 use ruthvelka::{ask, Answer, Query, Result, Validator, WasmFeatures};
 
+/// A text that may hold a module's own names: `?` in place of all but the printable characters of ASCII, so that no name ends the line.
+fn escaped(text: &str) -> String {
+    text.chars().map(|it| if matches!(it, ' '..='~') { it } else { '?' }).collect()
+}
+
 fn link(exporter: &[u8], importer: &[u8]) -> Result<()> {
     let mut validator = Validator::new();
     let exports = validator.imports_and_exports(exporter)?.exports;
@@ -19,7 +24,7 @@ fn link(exporter: &[u8], importer: &[u8]) -> Result<()> {
             Answer::No => "not linked",
             Answer::Unknown => "not exported",
         };
-        println!("{}.{}: {word}", import.module, import.name);
+        println!("{}.{}: {word}", escaped(&import.module), escaped(&import.name));
     }
     Ok(())
 }

@@ -4,6 +4,11 @@
 use ruthvelka::{validate, Export, Result, Types, Validator};
 use std::process::ExitCode;
 
+/// A text that may hold a module's own names: `?` in place of all but the printable characters of ASCII, so that no name ends the line.
+fn escaped(text: &str) -> String {
+    text.chars().map(|it| if matches!(it, ' '..='~') { it } else { '?' }).collect()
+}
+
 /// A module that was loaded.
 struct Loaded {
     types: Types,
@@ -26,7 +31,7 @@ fn load(validator: &mut Validator, bytes: &[u8], loaded: &mut Vec<Loaded>) -> Re
     let types = validator.validate_all(bytes)?;
     let externs = validator.imports_and_exports(bytes)?;
     for (number, it) in externs.imports.iter().enumerate() {
-        println!("{}.{}: {}", it.module, it.name, link(loaded, &types, number as u32, &it.name));
+        println!("{}.{}: {}", escaped(&it.module), escaped(&it.name), link(loaded, &types, number as u32, &it.name));
     }
     loaded.push(Loaded { types, exports: externs.exports });
     Ok(())
