@@ -1,7 +1,10 @@
-/* target.c: what libFuzzer calls with each input, a module's bytes. Every call of ruthvelka.h is made on it, and what they say has to agree:
+/* target.c: what libFuzzer calls with each input, a module's bytes. These calls of ruthvelka.h are made on it, and what they say has to agree:
 
    - ruthvelka_validate, _with_ids, _with_externs and a list of this module alone: one verdict, one report;
-   - a validator behind a handle: the same verdict, and its types tell the imports and exports of version 1, each with what its kind has;
+   - ruthvelka_check: the same verdict, and the same told of it;
+   - a validator behind a handle: the same verdict, and its types tell the imports, exports and ids of version 1, each with what its kind has;
+   - side tables: of a valid module one for each body, within it, whose entries lead to places in it, and the same where it is asked for by itself;
+   - custom sections, bodies and a function's name: within the bytes, and told of each valid module;
    - the same module twice in a list: twice the verdict, and the same ids; a list with questions: the same reports, and a type is below itself;
    - a set of features and one with more: what is valid under the first is valid under the second;
    - a refusal: its offset is in the bytes, and the missing feature is one that was off;
@@ -136,6 +139,85 @@ static void check_externs(const uint8_t *bytes, size_t length, uint64_t features
         CHECK(imports[i].name_start + imports[i].name_length <= report.names_length, "a name of an import");
 }
 
+/* The call for gates: the same verdict, and the same told of it. */
+static void check_outcome(const uint8_t *bytes, size_t length, uint64_t features, const struct ruthvelka_report *wanted) {
+    struct ruthvelka_outcome outcome = {.size = sizeof outcome};
+    const uint32_t status = ruthvelka_check(bytes, length, features, NULL, 0, &outcome);
+    CHECK(status == outcome.status, "the result is the outcome's status");
+    if (status == RUTHVELKA_STATUS_NO_MEMORY) return;
+    CHECK(status == (wanted->verdict == RUTHVELKA_VALID ? RUTHVELKA_STATUS_VALID : RUTHVELKA_STATUS_REFUSED), "a status for each verdict");
+    CHECK(outcome.offset == wanted->offset && outcome.missing_features == wanted->missing_features && outcome.function == wanted->function
+        && outcome.message_length == wanted->message_length, "an outcome, the refusal");
+    CHECK(outcome.types == wanted->types && outcome.functions == wanted->functions && outcome.tables == wanted->tables
+        && outcome.memories == wanted->memories && outcome.globals == wanted->globals && outcome.tags == wanted->tags
+        && outcome.imports == wanted->imports && outcome.exports == wanted->exports, "an outcome, the counts");
+}
+
+/* One table among those of all: it lies in its body, its entries lead to places in it, and it is the same where it is asked for by itself. */
+static void check_table(const uint8_t *bytes, size_t length, uint64_t features, const struct ruthvelka_body *body, const struct ruthvelka_body_table *it,
+    const struct ruthvelka_side_entry *entries, size_t told) {
+    struct ruthvelka_side_table alone = {.size = sizeof alone, .entry_size = sizeof(struct ruthvelka_side_entry)};
+    struct ruthvelka_side_entry own[ROOM];
+    CHECK(body->start <= it->first && it->first < it->end && it->end == body->end, "a table in its body");
+    for (size_t i = 0; i < told; i++)
+        CHECK(it->first <= entries[i].at && entries[i].at < it->end && it->first <= entries[i].target && entries[i].target <= it->end
+            && entries[i].next <= it->entries && (uint64_t)entries[i].kept + entries[i].dropped <= it->operands, "an entry of a table");
+    if (ruthvelka_side_table(bytes, length, features, it->function, NULL, 0, NULL, &alone, own, ROOM) == RUTHVELKA_STATUS_NO_MEMORY) return;
+    CHECK(alone.entries == it->entries && alone.first == it->first && alone.end == it->end && alone.operands == it->operands
+        && alone.locals == it->locals, "a table by itself");
+    CHECK(!memcmp(own, entries, told * sizeof own[0]), "the entries of a table by itself");
+}
+
+static void check_tables(const uint8_t *bytes, size_t length, uint64_t features, const struct ruthvelka_report *wanted) {
+    struct ruthvelka_side_tables totals = {.size = sizeof totals, .table_size = sizeof(struct ruthvelka_body_table),
+        .entry_size = sizeof(struct ruthvelka_side_entry)};
+    struct ruthvelka_body_table tables[8];
+    struct ruthvelka_side_entry entries[ROOM + 1];
+    struct ruthvelka_body bodies[8] = {{.size = sizeof bodies[0]}};
+    uint64_t count, start = 0;
+    memset(entries, MARK, sizeof entries);
+    const uint32_t status = ruthvelka_side_tables(bytes, length, features, NULL, 0, NULL, &totals, tables, 8, entries, ROOM);
+    if (status == RUTHVELKA_STATUS_NO_MEMORY) return;
+    CHECK((status == RUTHVELKA_STATUS_DONE) == (wanted->verdict == RUTHVELKA_VALID), "side tables of a valid module");
+    if (status != RUTHVELKA_STATUS_DONE) return;
+    const size_t written = totals.entries < ROOM ? totals.entries : ROOM;
+    CHECK(is_marked(entries + written, sizeof entries - written * sizeof entries[0]), "nothing behind the entries");
+    CHECK(ruthvelka_bodies(bytes, length, &count, bodies, 8) == RUTHVELKA_STATUS_DONE && count == totals.tables, "a table for each body");
+    for (uint64_t i = 0; i < totals.tables && i < 8; i++) {
+        CHECK(tables[i].start == start && tables[i].function == wanted->functions - totals.tables + i, "a table behind those before");
+        const uint64_t left = start < written ? written - start : 0;
+        check_table(bytes, length, features, &bodies[i], &tables[i], entries + (left ? start : 0), left < tables[i].entries ? left : tables[i].entries);
+        start += tables[i].entries;
+    }
+    CHECK(totals.tables > 8 || start == totals.entries, "the entries of all tables");
+}
+
+/* Where parts lie in the bytes, whether the module is valid or not. */
+static void check_places(const uint8_t *bytes, size_t length, uint32_t function, const struct ruthvelka_report *wanted) {
+    struct ruthvelka_custom_section sections[4] = {{.size = sizeof sections[0]}};
+    struct ruthvelka_body bodies[8] = {{.size = sizeof bodies[0]}};
+    uint64_t count, length_told, last = 0;
+    char name[ROOM];
+    uint32_t status = ruthvelka_custom_sections(bytes, length, &count, sections, 4);
+    CHECK(status == RUTHVELKA_STATUS_DONE || (!count && wanted->verdict != RUTHVELKA_VALID), "the custom sections of a valid module");
+    CHECK(count <= length / 3, "custom sections that are in the bytes");
+    for (uint64_t i = 0; i < count && i < 4; i++)
+        CHECK(sections[i].start < sections[i].name_start && sections[i].name_start + sections[i].name_length == sections[i].data_start
+            && sections[i].data_start <= sections[i].end && sections[i].end <= length, "a custom section");
+    status = ruthvelka_bodies(bytes, length, &count, bodies, 8);
+    CHECK(status == RUTHVELKA_STATUS_DONE || (!count && wanted->verdict != RUTHVELKA_VALID), "the bodies of a valid module");
+    for (uint64_t i = 0; i < count && i < 8; i++) {
+        CHECK(last <= bodies[i].start && bodies[i].start <= bodies[i].end && bodies[i].end <= length, "a body behind the one before");
+        last = bodies[i].end;
+    }
+    memset(name, MARK, sizeof name);
+    status = ruthvelka_function_name(bytes, length, function, &length_told, name, ROOM - 8);
+    CHECK(status == RUTHVELKA_STATUS_DONE || !length_told, "no name, and no length");
+    CHECK(length_told <= length, "a name that is in the bytes");
+    const size_t written = length_told < ROOM - 8 ? length_told : ROOM - 8;
+    CHECK(is_marked(name + written, sizeof name - written), "nothing behind a name");
+}
+
 /* What kept types say of an import or an export of version 1: the same names, kind and id, what its kind has, and a type that can be asked about. */
 static void check_type(struct ruthvelka_types *types, const struct ruthvelka_extern *wanted, const struct ruthvelka_extern_type *it) {
     struct ruthvelka_signature signature = {sizeof signature, 0, 0};
@@ -154,6 +236,24 @@ static void check_type(struct ruthvelka_types *types, const struct ruthvelka_ext
         CHECK(ruthvelka_types_matches(types, &params[i], &params[i]) == RUTHVELKA_YES, "kept types, a parameter matches itself");
     for (uint64_t i = 0; i < signature.results && i < 8; i++)
         CHECK(ruthvelka_types_matches(types, &results[i], &results[i]) == RUTHVELKA_YES, "kept types, a result matches itself");
+}
+
+/* The ids of kept types are those of version 1; and another handle on them answers as the first. */
+static void check_kept_ids(struct ruthvelka_types *types, const uint8_t *bytes, size_t length, uint64_t features) {
+    struct ruthvelka_types again = RUTHVELKA_NOTHING;
+    struct ruthvelka_outcome outcome = {.size = sizeof outcome};
+    struct ruthvelka_report report;
+    uint32_t wanted[2][ROOM], ids[2][ROOM];
+    memset(wanted, MARK, sizeof wanted), memset(ids, MARK, sizeof ids);
+    if (ruthvelka_validate_with_ids(bytes, length, features, NULL, 0, &report, wanted[0], ROOM, wanted[1], ROOM) != RUTHVELKA_VALID) return;
+    CHECK(ruthvelka_types_ids(types, &outcome, ids[0], ROOM, ids[1], ROOM) == RUTHVELKA_STATUS_DONE && outcome.types == report.types
+        && outcome.functions == report.functions && !memcmp(ids, wanted, sizeof ids), "kept types, ids");
+    if (ruthvelka_types_retain(types, &again) != RUTHVELKA_STATUS_DONE) return;
+    if (report.types) CHECK(ruthvelka_types_is_subtype(&again, ids[0][0], ids[0][0]) == RUTHVELKA_YES, "kept types, a type is below itself");
+    CHECK(ruthvelka_types_entity_may_be_given(types, 0, &again, 0) == ruthvelka_types_entity_may_be_given(&again, 0, types, 0),
+        "kept types, two handles");
+    ruthvelka_types_release(&again);
+    CHECK(ruthvelka_types_is_subtype(&again, ids[0][0], ids[0][0]) == RUTHVELKA_NO, "a handle that was released");
 }
 
 static void check_types(const uint8_t *bytes, size_t length, uint64_t features, const struct ruthvelka_report *wanted) {
@@ -176,6 +276,7 @@ static void check_types(const uint8_t *bytes, size_t length, uint64_t features, 
             "kept types");
         CHECK(outcome.imports == report.imports && outcome.exports == report.exports && outcome.names_length == report.names_length
             && !memcmp(names, kept_names, sizeof names), "kept types, counts and names");
+        check_kept_ids(&types, bytes, length, features);
         for (uint64_t i = 0; i < report.imports && i < 8; i++) check_type(&types, &imports[i], &import_types[i]);
         for (uint64_t i = 0; i < report.exports && i < 8; i++) check_type(&types, &exports[i], &export_types[i]);
     }
@@ -211,6 +312,10 @@ int LLVMFuzzerTestOneInput(const uint8_t *bytes, size_t length) {
     check_ids(bytes, length, more, &large);
     check_externs(bytes, length, more, &large);
     check_types(bytes, length, more, &large);
+    check_outcome(bytes, length, more, &large);
+    check_tables(bytes, length, more, &large);
+    check_places(bytes, length, (uint32_t)(chance % 8), &large);
+    check_outcome(bytes, length, fewer, &small);
     check_ids(bytes, length, fewer, &small);
     keep_tried(bytes, length, chance);
     return 0;
