@@ -2,9 +2,10 @@
 
    A module is accepted exactly where it is valid under the WebAssembly Core Specification 3.0 and
    the enabled proposals, within fixed limits, and has nothing that is left out. docs/THEOREM.md of
-   the repository has the exact statement; docs/PROVED.md says which part of this library is
-   proved: all but c/, some 500 lines of C that test the arguments, pass these calls on, write
-   outcomes and take memory.
+   the repository has the exact statement. All of the library but c/ (some 500 lines of C that
+   test the arguments, pass these calls on, write outcomes and take memory) has proofs, which
+   docs/PROVED.md lists; whether they were run for the library at hand is what the last line of
+   bin/build-c says, or the file PROOF of a release.
 
    How to use it. A program that loads modules makes a validator, gives it one module after
    another, keeps the types of those that it accepts, and asks these what may be linked:
@@ -31,8 +32,8 @@
    - a validator, and all handles that hold types from it, stay on one thread.
 
    What a call fills has to hold nothing before. A handle that was freed holds nothing: each call
-   on it says RUTHVELKA_STATUS_WRONG, and to free it again does nothing. Types live on when their
-   validator is freed.
+   on it that has a status says RUTHVELKA_STATUS_WRONG, each question is answered with
+   RUTHVELKA_NO, and to free it again does nothing. Types live on when their validator is freed.
 
    Ids. Each type has an id, a number below 1,048,576. Under RUTHVELKA_STANDARD two types of
    modules of one validator have one id exactly where they are equal, and an id means the same as
@@ -51,10 +52,11 @@
    more than that size, and an earlier one no more than it knows, so set the others to 0 before. Of
    an array of structures the caller sets the size of the first item, which is that of each.
 
-   Memory comes from malloc, realloc and free, or from the allocator that a validator was made
-   with. Where a request is refused the status is RUTHVELKA_STATUS_NO_MEMORY, or, where only a
-   message wanted it, the right one without a message; and all that was taken is given back, but
-   for what handles hold.
+   Memory comes from malloc, realloc and free; in a call on a handle from the allocator that its
+   validator was made with, if it was made with one; and in a call without a handle from what
+   ruthvelka_set_allocator was given. Where a request is refused the status is
+   RUTHVELKA_STATUS_NO_MEMORY, or, where only a message wanted it, the right one without a
+   message; and all that was taken is given back, but for what handles hold.
 
    Messages. The message of a refusal is UTF-8, without a zero behind it. It may quote a name of
    the module: "duplicate export name `a` already defined". The name is the module's, and may hold
@@ -63,11 +65,12 @@
    goes to a terminal, a log or a page.
 
    Threads. Calls on different validators, and on types from different ones, and all calls without
-   a handle, may run side by side. What a call is given belongs to it until it returns; bytes and
-   lists of modules are only read, so calls may share them. Make no call in a signal handler, and
-   none in an allocator. The bodies of a module are validated by the call on the module: what a
-   validator holds counts its holders without locks, so that two threads can't read it. Threads
-   validate several modules side by side, each by a validator of its own.
+   a handle but ruthvelka_set_allocator, may run side by side. What a call is given belongs to it
+   until it returns; bytes and lists of modules are only read, so calls may share them. Make no
+   call in a signal handler, and none in an allocator. The bodies of a module are validated by the
+   call on the module: what a validator holds counts its holders without locks, so that two
+   threads can't read it. Threads validate several modules side by side, each by a validator of
+   its own.
 
    Wrong calls. A pointer may be null where its count is 0; an outcome, and the handle for the types
    of a module, may always be null. Any other null pointer, a count of items that no object can have
@@ -84,9 +87,10 @@
    Gates. With RUTHVELKA_CRATE_LIMITS a function type has at most 1,000 parameters and 1,000
    results, a structure type 10,000 fields, a try_table 10,000 catch clauses, and a name of an
    import or export 100,000 bytes, and the work on a body is at most a constant times its bytes
-   times 1,000, and linear for all that compilers write; without it, it is the product of the
-   parameters and results of types and the operators that have them. A host that takes modules from
-   strangers sets it, and a limit on the bytes of a module besides. A refusal by one of these
+   times 10,000, the limit on fields, and linear for all that compilers write; without it, it is
+   the product of the parameters, results and fields of types and the operators that have them.
+   That is measured, not proved. A host that takes modules from strangers sets it, and a limit on
+   the bytes of a module besides. A refusal by one of these
    limits has no proposal in missing_features: what would lift it is to leave
    RUTHVELKA_CRATE_LIMITS out.
 
@@ -243,7 +247,8 @@ struct ruthvelka_outcome {
     uint64_t missing_features;
     /* refused: how many bytes the whole message has, also where the room was less; else 0 */
     uint64_t message_length;
-    /* how many of each the module has, imported ones among them; 0 where no types are told */
+    /* how many of each the module has, imported ones among them; 0 unless the status is
+       RUTHVELKA_STATUS_VALID or RUTHVELKA_STATUS_DONE */
     uint64_t imports, exports;
     uint32_t types, functions, tables, memories, globals, tags;
     /* ruthvelka_types_externs: how many bytes the names have; of any other call 0 */
@@ -778,11 +783,11 @@ uint32_t ruthvelka_function_name(const uint8_t *bytes, size_t length, uint32_t f
 
 /* ----------------------------------------- Version 1 -------------------------------------------
 
-   The calls below are deprecated: they stay for one version more. Their verdicts begin with 0 for
-   a valid module, so a report that was set to 0 and never written reads as valid. ruthvelka_check
-   has what ruthvelka_validate has, and handles have all else. What is said above of outcomes holds
-   of their reports, which may be null; a wrong call gives RUTHVELKA_BAD_CALL, and writes nothing
-   but its report. */
+   The calls below but ruthvelka_set_allocator are deprecated: they stay for one version more.
+   Their verdicts begin with 0 for a valid module, so a report that was set to 0 and never written
+   reads as valid. ruthvelka_check has what ruthvelka_validate has, and handles have all else.
+   What is said above of outcomes holds of their reports, which may be null; a wrong call gives
+   RUTHVELKA_BAD_CALL, and writes nothing but its report. */
 
 /* Verdicts. */
 #define RUTHVELKA_VALID 0        /* the bytes are a valid module */
