@@ -249,7 +249,7 @@ run_by_rt() {
 }
 
 # Runs the program, on the caller's words: the one that bin/prove has proved and built of these sources, else one that is compiled from the same
-# sources without their proofs, which takes two minutes the first time. docs/DECISIONS.md says what this rests on.
+# sources without their proofs, which takes two to five minutes the first time. docs/DECISIONS.md says what this rests on.
 run_program() {
     look_for_kit
     run_built "$@"
@@ -260,7 +260,7 @@ run_program() {
         run_built "$@"
         make_room
         sum=$(sum_of_sources unproved)
-        echo "$name: compiling the program, which takes some two minutes, once" >&2
+        echo "$name: compiling the program, which takes two to five minutes, once" >&2
         if ! compile; then
             echo "$name: the program could not be compiled by itself; this is the end of its log, $built/try.log:" >&2
             cp "$room/try.log" "$built/try.log"

@@ -8,7 +8,7 @@ usage: tools/write_docs.py               writes docs/API.md, docs/api/, docs/LIM
 
 docs_api.py makes the pages on the public items, docs_limits.py the page on limits, docs_specification.py that on definitions, docs_checks.py has the
 checks, and docs_plants.py the false sentences. A quote is a block of code in a document after a line `<!-- from PATH: NAME -->`: it becomes the function or definition NAME as PATH
-has it. The status is 1 where a page isn't current, a document is wrong, or a false sentence is let through; .ci/run calls it with --check."""
+has it. The status is 1 where a page isn't current, a document is wrong, or a false sentence is let through; bin/test calls it with --check."""
 import os
 import re
 import sys

@@ -70,7 +70,7 @@ def python_table(header):
         f"LIBRARY_VERSION = {header.number}\n\n\n"
         'class WasmFeatures(IntFlag):\n    """A set of proposals, which modules may use."""\n\n'
         f"{rows}"
-        "    # what is on by default: the Core Specification 3.0 without its operators on vectors, but with v128.const, and shared memories\n"
+        "    # what is on by default: the Core Specification 3.0 without its operators on vectors other than v128.const; and besides it shared memories\n"
         f"    STANDARD = (\n        {union(header.standard)}\n    )\n"
         f"    # all that grant something\n    ALL = (\n        STANDARD\n        | {union(others)}\n    )\n"
     )
@@ -90,7 +90,7 @@ def rust_table(header):
         f"pub(crate) const LIBRARY_VERSION: u32 = {header.number};\n\n"
         "impl WasmFeatures {\n"
         f"{rows}"
-        "    /// What is on by default: the Core Specification 3.0 without its operators on vectors, but with `v128.const`, and shared memories.\n"
+        "    /// What is on by default: the Core Specification 3.0 without its operators on vectors other than `v128.const`; and besides it shared memories.\n"
         f"    pub const STANDARD: WasmFeatures = {union(header.standard)};\n"
         "    /// All that grant something.\n"
         f"    pub(crate) const ALL: WasmFeatures = {union(header.all)};\n"
@@ -120,7 +120,7 @@ def go_table(header):
         f"const libraryVersion = {header.number}\n\n"
         f"// The features, as bits of a set.\nconst (\n{rows})\n\n"
         "const (\n"
-        "\t// Standard is what is on by default: the Core Specification 3.0 without its operators on vectors, but with `v128.const`, and shared memories.\n"
+        "\t// Standard is what is on by default: the Core Specification 3.0 without its operators on vectors other than `v128.const`; and besides it shared memories.\n"
         f"\tStandard = {union(header.standard)}\n"
         "\t// All is all that grant something.\n"
         f"\tAll = {union(header.all)}\n)\n\n"

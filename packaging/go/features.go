@@ -69,7 +69,7 @@ const (
 )
 
 const (
-	// Standard is what is on by default: the Core Specification 3.0 without its operators on vectors, but with `v128.const`, and shared memories.
+	// Standard is what is on by default: the Core Specification 3.0 without its operators on vectors other than `v128.const`; and besides it shared memories.
 	Standard = MutableGlobal |
 		ReferenceTypes |
 		MultiValue |

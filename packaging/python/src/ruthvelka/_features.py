@@ -37,7 +37,7 @@ class WasmFeatures(IntFlag):
     SHARED_ATOMIC_OPERATORS = 1 << 26  # pause, atomic access to globals, tables, structures, arrays; need SHARED_EVERYTHING_THREADS
     STACK_SWITCHING_OPERATORS = 1 << 27  # the operators on continuations; they need STACK_SWITCHING too
     COMPACT_IMPORTS = 1 << 28  # entries of the import section that have several imports of one module
-    # what is on by default: the Core Specification 3.0 without its operators on vectors, but with v128.const, and shared memories
+    # what is on by default: the Core Specification 3.0 without its operators on vectors other than v128.const; and besides it shared memories
     STANDARD = (
         MUTABLE_GLOBAL | REFERENCE_TYPES | MULTI_VALUE | BULK_MEMORY | SIMD | THREADS | FLOATS | MULTI_MEMORY | EXCEPTIONS | MEMORY64 | EXTENDED_CONST
         | FUNCTION_REFERENCES | GC | GC_TYPES

@@ -63,7 +63,7 @@ impl WasmFeatures {
     pub const STACK_SWITCHING_OPERATORS: WasmFeatures = WasmFeatures(1 << 27);
     /// entries of the import section that have several imports of one module
     pub const COMPACT_IMPORTS: WasmFeatures = WasmFeatures(1 << 28);
-    /// What is on by default: the Core Specification 3.0 without its operators on vectors, but with `v128.const`, and shared memories.
+    /// What is on by default: the Core Specification 3.0 without its operators on vectors other than `v128.const`; and besides it shared memories.
     pub const STANDARD: WasmFeatures = WasmFeatures(
         WasmFeatures::MUTABLE_GLOBAL.0
             | WasmFeatures::REFERENCE_TYPES.0
