@@ -51,8 +51,8 @@ pub mod operators_plain {
 /// Passed on from `wasm_operators`.
 pub mod operators {
     pub use wasm_operators::{
-        BulkMemoryOperator, ConstantOperator, ControlOperator, Ieee32, Ieee64, Operator,
-        ParametricOperator, ReferenceOperator, SaturatingOperator, TableOperator,
+        BulkMemoryOperator, ControlOperator, Operator, ParametricOperator, ReferenceOperator,
+        SaturatingOperator, TableOperator,
     };
 }
 

@@ -9,13 +9,13 @@ use Rattle.wasm_typing_fast.specs.WasmOperatorsPlain.WasmReaders.WrittenIndices.
 use Rattle.wasm_typing_fast.specs.WasmReadersValues.declared.indices.UnpackedIndex.{UnpackedIndex}
 use Rattle.wasm_typing_fast.specs.WasmOperatorsPlain.Calls.{call_from}
 use Rattle.wasm_typing_fast.specs.WasmOperatorsPlain.Variables.{variable_from}
-use Rattle.wasm_typing_fast.specs.WasmOperatorsPlain.Constants.{constant_from}
+use Rattle.wasm_typing_fast.specs.WasmOperatorsPlain.Constants.{bits_32_at, bits_64_at, constant_from}
 use Rattle.wasm_typing_fast.specs.WasmOperatorsPlain.Memories.{access_from, memarg_at}
 use Rattle.wasm_typing_fast.specs.WasmOperatorsPlain.declared.calls.CallOperator.TheVariants.{Call, CallIndirect}
 use Rattle.wasm_typing_fast.specs.WasmOperatorsPlain.declared.memories.MemoryOperator.{MemoryOperator}
 use Rattle.wasm_typing_fast.specs.WasmOperatorsPlain.declared.memories.MemArg.{MemArg}
 use Rattle.wasm_typing_fast.specs.WasmOperatorsPlain.declared.variables.VariableOperator.TheVariants.{LocalGet, LocalSet, LocalTee, GlobalGet, GlobalSet}
-use Rattle.wasm_typing_fast.specs.WasmOperatorsPlain.declared.constants.ConstantOperator.TheVariants.{I32Const, I64Const}
+use Rattle.wasm_typing_fast.specs.WasmOperatorsPlain.declared.constants.ConstantOperator.TheVariants.{I32Const, I64Const, F32Const, F64Const}
 use Rattle.wasm_typing_fast.specs.WasmOperatorsPlain.Numeric.{numeric_from}
 use Rattle.wasm_typing_fast.specs.WasmOperatorsPlain.Signatures.{signature_of}
 use Rattle.wasm_typing_fast.specs.WasmOperatorsPlain.declared.numeric.NumericOperator.{NumericOperator}
@@ -231,6 +231,14 @@ module _ {A : Type 0} (v : Stacks A) (C : Context UnpackedIndex) (r : Result (Un
   unfolding plain_from constant_from
   read_i64 n e f = rw (e, f) refl
 
+  read_f32 : (n : ℕ) → b ≡ 0x43 → bits_32_at bytes ≡ Some (n, rest) → plain_from written b bytes ≡ Some (constant (F32Const (record { 0 = n })), rest)
+  unfolding plain_from constant_from
+  read_f32 n e f = rw (e, f) refl
+
+  read_f64 : (n : ℕ) → b ≡ 0x44 → bits_64_at bytes ≡ Some (n, rest) → plain_from written b bytes ≡ Some (constant (F64Const (record { 0 = n })), rest)
+  unfolding plain_from constant_from
+  read_f64 n e f = rw (e, f) refl
+
   pub at_get : (n : ℕ) → b ≡ 0x20 → u32_at bytes ≡ Some (n, rest) → Steps (variable_shape (LocalGet n)) → Goes
   at_get n e f h = fuse r (variable (LocalGet n)) (read_get n e f) h
 
@@ -262,6 +270,12 @@ module _ {A : Type 0} (v : Stacks A) (C : Context UnpackedIndex) (r : Result (Un
   pub at_i64 : b ≡ 0x42 → behind_signed 64 bytes ≡ Some rest → Steps (plain (allows (number_type number.I64) ∷ []) nothing (one (number_type number.I64))) → Goes
   unfolding behind_signed
   at_i64 e f h = some_i64 (signed_at 64 bytes) e refl f h
+
+  pub at_f32 : (n : ℕ) → b ≡ 0x43 → bits_32_at bytes ≡ Some (n, rest) → Steps (plain (allows (number_type number.F32) ∷ []) nothing (one (number_type number.F32))) → Goes
+  at_f32 n e f h = fuse r (constant (F32Const (record { 0 = n }))) (read_f32 n e f) h
+
+  pub at_f64 : (n : ℕ) → b ≡ 0x44 → bits_64_at bytes ≡ Some (n, rest) → Steps (plain (allows (number_type number.F64) ∷ []) nothing (one (number_type number.F64))) → Goes
+  at_f64 n e f h = fuse r (constant (F64Const (record { 0 = n }))) (read_f64 n e f) h
 
   read_block : (x : Block UnpackedIndex) → b ≡ 0x02 → block_at written bytes ≡ Some (x, rest) → plain_from written b bytes ≡ Some (control (block x), rest)
   unfolding plain_from control_from
@@ -363,7 +377,7 @@ module _ {A : Type 0} (v : Stacks A) (C : Context UnpackedIndex) (r : Result (Un
 
 pub ruleset variables = (told_left, fused_told, tells_left, tells_of, at_get, at_set, at_tee, at_global, at_put)
 
-pub ruleset structures = (told_left, fused_told, tells_left, tells_of, tells_plain, at_block, at_loop, at_if, at_end, at_br, at_br_if, at_return, at_unreachable, at_nop, at_call, at_call_indirect, at_drop, at_select, at_i32, at_i64)
+pub ruleset structures = (told_left, fused_told, tells_left, tells_of, tells_plain, at_block, at_loop, at_if, at_end, at_br, at_br_if, at_return, at_unreachable, at_nop, at_call, at_call_indirect, at_drop, at_select, at_i32, at_i64, at_f32, at_f64)
 
 pub ruleset tables = (fused_left, plain_left, plain_numeric, plain_access, at_numeric, at_access)
 

@@ -6,7 +6,7 @@ mod seldom;
 mod steps;
 mod told;
 
-pub use seldom::{is_seldom, next_float, next_seldom};
+pub use seldom::{is_seldom, next_seldom};
 pub use steps::told_step;
 pub use told::Told;
 pub use wasm_typing_fast::{NotTaken, pass_i32, pass_i64};

@@ -7,12 +7,12 @@ ghost use Rattle.wasm_typing_fast.specs.WasmReadersValues.SeenValues.{heap_of};
 ghost use Rattle.wasm_typing_fast.specs.WasmSpec.BinaryTypes.{heap_at};
 ghost use Rattle.wasm_typing_fast.specs.WasmOperatorsPlain.Constants.{bits_32_at, bits_64_at};
 ghost use Rattle.wasm_typing_fast.specs.WasmOperatorsPlain.Numeric.{saturating_from};
-ghost use Rattle.wasm_typing_fast.specs.WasmOperators.Instructions.{bulk_from, constant, plain_from, instruction_at};
+ghost use Rattle.wasm_typing_fast.specs.WasmOperators.Instructions.{bulk_from, plain_from, instruction_at};
 ghost use Rattle.wasm_typing_fast.specs.WasmOperators.SeenOperators.{operator_of};
 
 use wasm_typing_fast::operators::{
-    BulkMemoryOperator, ConstantOperator, ControlOperator, Ieee32, Ieee64, Operator,
-    ParametricOperator, ReferenceOperator, SaturatingOperator, TableOperator,
+    BulkMemoryOperator, ControlOperator, Operator, ParametricOperator, ReferenceOperator,
+    SaturatingOperator, TableOperator,
 };
 use wasm_typing_fast::operators_plain::BinaryReader;
 use wasm_typing_fast::readers_types::{AbstractHeapType, HeapType};
@@ -20,7 +20,7 @@ use wasm_typing_fast::readers_types::{AbstractHeapType, HeapType};
 /// The bits of four bytes, the least significant first, if they are there.
 #[inline(always)]
 #[tactic(auto, unfolding(crate::proofs::Cited::bits_32_at))]
-fn next_bits_32(reader: &mut BinaryReader) -> Option<u32>
+pub(crate) fn next_bits_32(reader: &mut BinaryReader) -> Option<u32>
     ensures same { SameInput reader.old reader.new }
     ensures onward { position_in reader.old ≤ position_in reader.new }
     ensures some { IfSome result (λ n. bits_32_at (rest reader.old) ≡ Some (n, rest reader.new)) }
@@ -40,7 +40,7 @@ fn next_bits_32(reader: &mut BinaryReader) -> Option<u32>
 /// The bits of eight bytes, the least significant first, if they are there.
 #[inline(always)]
 #[tactic(auto, unfolding(crate::proofs::Cited::bits_64_at))]
-fn next_bits_64(reader: &mut BinaryReader) -> Option<u64>
+pub(crate) fn next_bits_64(reader: &mut BinaryReader) -> Option<u64>
     ensures same { SameInput reader.old reader.new }
     ensures onward { position_in reader.old ≤ position_in reader.new }
     ensures some { IfSome result (λ n. bits_64_at (rest reader.old) ≡ Some (n, rest reader.new)) }
@@ -48,27 +48,6 @@ fn next_bits_64(reader: &mut BinaryReader) -> Option<u64>
     let low = next_bits_32(reader)?;
     let high = next_bits_32(reader)?;
     Some(u64::from(low) + (u64::from(high) << 32))
-}
-
-/// The next operator, if it is a constant of a floating-point number. Else the reader may stand
-/// anywhere in its input.
-#[inline(always)]
-#[tactic(auto, unfolding(crate::proofs::Cited::instruction_at, crate::proofs::Cited::plain_from, crate::proofs::Cited::constant_from))]
-pub fn next_float(reader: &mut BinaryReader) -> Option<ConstantOperator>
-    ensures same { SameInput reader.old reader.new }
-    ensures some { IfSome result (λ op. instruction_at written (rest reader.old)
-        ≡ Some (constant op, rest reader.new)) }
-    ensures further { OnSome result (position_in reader.old < position_in reader.new) }
-{
-    match reader.next_u8()? {
-        0x43 => Some(ConstantOperator::F32Const {
-            value: Ieee32(next_bits_32(reader)?),
-        }),
-        0x44 => Some(ConstantOperator::F64Const {
-            value: Ieee64(next_bits_64(reader)?),
-        }),
-        _ => None,
-    }
 }
 
 /// The heap type that is next, if it is that of functions or of what the host has.
@@ -183,7 +162,7 @@ fn next_on_values<'a>(reader: &mut BinaryReader<'a>, opcode: u8) -> Option<Opera
 #[inline(always)]
 pub fn is_seldom(opcode: u8) -> bool {
     match opcode {
-        0x05 | 0x0b | 0x1b | 0x25 | 0x26 | 0x3f | 0x40 | 0x43 | 0x44 => true,
+        0x05 | 0x0b | 0x1b | 0x25 | 0x26 | 0x3f | 0x40 => true,
         0xd0 | 0xd1 | 0xd2 | 0xfc => true,
         _ => false,
     }

@@ -7,6 +7,7 @@ ghost use Rattle.wasm_typing_fast.specs.WasmTypingControl.WasmTypingChecks.WasmT
 ghost use Rattle.wasm_typing_steps.specs.InstructionSteps.{Fuses, FusesAs, step_at};
 ghost use Rattle.wasm_typing_steps.specs.ToldSteps.{IsPlain, OnLeft, OnTaken, Tells, told_at};
 
+use crate::seldom::{next_bits_32, next_bits_64};
 use crate::told::{Told, leave, tell};
 use std::alloc::Allocator;
 use wasm_typing_fast::operators_plain::{
@@ -145,6 +146,15 @@ fn step_structural<A: Allocator, T: WasmModuleResources>(
         0x42 => match pass_i64(reader) {
             Ok(()) => tell(constant(stacks, resources, NumberType::I64), Told::Quiet),
             Err(why) => leave(why),
+        },
+        // Of a floating-point number only its bytes count.
+        0x43 => match next_bits_32(reader) {
+            Some(_) => tell(constant(stacks, resources, NumberType::F32), Told::Quiet),
+            None => Told::Left,
+        },
+        0x44 => match next_bits_64(reader) {
+            Some(_) => tell(constant(stacks, resources, NumberType::F64), Told::Quiet),
+            None => Told::Left,
         },
         _ => tell(
             step_by_table(reader, stacks, resources, opcode),

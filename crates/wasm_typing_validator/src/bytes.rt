@@ -23,8 +23,7 @@ use wasm_typing_arity::read_served;
 use wasm_typing_blocks::typing_checks::OperatorError;
 use wasm_typing_blocks::typing_stacks::Stacks;
 use wasm_typing_blocks::validator_resources::WasmModuleResources;
-use wasm_typing_steps::typing_numbers::constant;
-use wasm_typing_steps::{NotTaken, Told, is_seldom, next_float, next_seldom, told_step};
+use wasm_typing_steps::{NotTaken, Told, is_seldom, next_seldom, told_step};
 
 /// Reads the next operator and takes its step, where it is one that compilers write less often. Where
 /// that isn't done the reader may stand further on.
@@ -45,24 +44,13 @@ fn step_read<'a, A: Allocator, T: WasmModuleResources>(
     if !stacks.is_open {
         return Err(NotTaken::Left);
     }
-    let mut ahead = *reader;
-    match next_float(&mut ahead) {
-        Some(value) => match constant(stacks, resources, value) {
-            Ok(()) => {
-                reader.go_on_from(&ahead);
-                Ok(())
-            }
+    match next_seldom(reader) {
+        Some(op) => match step(stacks, resources, &op) {
+            Ok(()) => Ok(()),
             Err(OperatorError::Refused(_)) => Err(NotTaken::Left),
             Err(OperatorError::OutOfMemory) => Err(NotTaken::OutOfMemory),
         },
-        None => match next_seldom(reader) {
-            Some(op) => match step(stacks, resources, &op) {
-                Ok(()) => Ok(()),
-                Err(OperatorError::Refused(_)) => Err(NotTaken::Left),
-                Err(OperatorError::OutOfMemory) => Err(NotTaken::OutOfMemory),
-            },
-            None => Err(NotTaken::Left),
-        },
+        None => Err(NotTaken::Left),
     }
 }
 

@@ -86,5 +86,17 @@ returns-in-Ok-pass_i64-clause-took g c = fused_told _ _ _ _ _ _ _ c.tell-in-Ok-p
 pub returns-in-Ok-pass_i64-clause-told : goal.returns-in-Ok-pass_i64-clause-told
 returns-in-Ok-pass_i64-clause-told g c = tells_of _ _ _ _ 66 (search rules) c.tell-in-Ok-pass_i64.ensures refl
 
+pub returns-in-Some-clause-took : goal.returns-in-Some-clause-took
+returns-in-Some-clause-took g c = fused_told _ _ _ _ _ _ _ c.tell-in-Some.ensures refl (search (rules, structures))
+
+pub returns-in-Some-clause-told : goal.returns-in-Some-clause-told
+returns-in-Some-clause-told g c = tells_of _ _ _ _ 67 (search rules) c.tell-in-Some.ensures refl
+
+pub returns-in-Some-next_bits_64-clause-took : goal.returns-in-Some-next_bits_64-clause-took
+returns-in-Some-next_bits_64-clause-took g c = fused_told _ _ _ _ _ _ _ c.tell-in-Some-next_bits_64.ensures refl (search (rules, structures))
+
+pub returns-in-Some-next_bits_64-clause-told : goal.returns-in-Some-next_bits_64-clause-told
+returns-in-Some-next_bits_64-clause-told g c = tells_of _ _ _ _ 68 (search rules) c.tell-in-Some-next_bits_64.ensures refl
+
 pub returns-in_default-clause-took : goal.returns-in_default-clause-took
 returns-in_default-clause-took g c = fused_told _ _ _ _ _ _ _ c.tell-in_default.ensures refl c.step_by_table.ensures.took
