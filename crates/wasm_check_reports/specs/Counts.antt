@@ -1,4 +1,4 @@
--- How many there are in an index space of a module. Core Specification 3.0, Syntax, Modules, Indices.
+-- How many there are in an index space of a module. Core Specification 3.0, Structure, Modules, Indices.
 use Rattle.std.specs.Prelude.{ℕ, ◌+◌, length, min}
 use Rattle.wasm_validate_files.specs.WasmValidatorTypes.Spaces.{Spaces}
 use Rattle.wasm_check_reports.specs.declared.imports.Imported.{Imported}

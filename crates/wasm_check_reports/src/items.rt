@@ -12,7 +12,7 @@ use std::alloc::{AllocError, Global};
 use wasm_validate_files::Input;
 use wasm_validate_files::validator::{CoreTypeId, TypesRef};
 
-/// An index space of a module (Core Specification 3.0, Syntax, Modules, Indices).
+/// An index space of a module (Core Specification 3.0, Structure, Modules, Indices).
 #[derive(Clone, Copy)]
 pub enum Space {
     Types,

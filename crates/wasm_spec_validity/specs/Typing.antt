@@ -53,7 +53,7 @@ module _ {R : Type 0} (same : R → R → Bool) (F : Features) (C : Context R) (
     IsTypedElementMode declarative = ⊤
     IsTypedElementMode (active x e) = IfSome (slice_get C.tables (index_or_first x)) (λ t. IsConstant (length C.globals) (address t.is_64) e)
 
-    -- and so are the items, of the type that is written
+    -- the items see all globals too, and are of the type that is written
     abbrev pub AreTypedItems : ElementItems Expression ℕ → Type 0
     AreTypedItems (functions xs) = ⊤
     AreTypedItems (expressions r es) = All (IsConstant (length C.globals) (reference (map_ref at r))) es

@@ -107,8 +107,9 @@ module _ {A : Type 0} (F : Features) (modules : List (List ℕ)) (answers : List
     pub accepted : (k : ℕ) (bytes : List ℕ) (t : shown.Types A) → IsAnswered k bytes (Ok t) → IsShown bytes t
     -- What is refused is no valid module, where there is room, unless the answer is that memory was refused.
     pub refused : HasRoom before → (k : ℕ) (bytes : List ℕ) (e : Error A) → IsAnswered k bytes (Err e) → IsValidModule F bytes → e ≡ OutOfMemory
-    -- It goes on behind a module exactly where that is valid up to its bodies.
+    -- It goes on only behind a module that is valid up to its bodies.
     pub goes_on : (k : ℕ) (bytes : List ℕ) (r : Result (shown.Types A) (Error A)) → IsAnswered k bytes r → suc k < length answers → IsValidUpToBodies F bytes
+    -- Where there is room, it stops before the end only behind a module that isn't, or where memory was refused.
     pub stops :
         HasRoom before
         → (k : ℕ) (bytes : List ℕ) (r : Result (shown.Types A) (Error A)) → IsAnswered k bytes r → suc k ≡ length answers → length answers < length modules → IsValidUpToBodies F bytes → r ≡ Err OutOfMemory
