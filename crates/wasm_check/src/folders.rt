@@ -24,10 +24,10 @@ pub struct Found {
 }
 
 /// The files that these names stand for: a folder for those in and below it whose names end in
-/// `.wasm`, by their bytes in order, and any other name for itself. Links to files count as files, and
-/// links to folders below are not followed. What can't be read is told on `err`, and so is a folder
-/// without such a file. No contract says what a folder holds, since the kit has no model of files; what
-/// is said is that no name is left out where all was found (`StandFor`).
+/// `.wasm`, by their bytes in order, and any other name for itself. Links to files count as files; links
+/// to folders below are not followed, and pipes and devices not read. What can't be read is told on
+/// `err`, and so is a folder without such a file. No contract says what a folder holds, since the kit has
+/// no model of files; what is said is that no name is left out where all was found (`StandFor`).
 ///
 /// # Errors
 ///
@@ -58,6 +58,14 @@ fn is_folder(rt: &impl Files, name: &str) -> bool {
     match fs::metadata(rt, name) {
         Ok(metadata) => metadata.is_dir(),
         Err(_) => false,
+    }
+}
+
+/// Whether this is a file, or nothing is known of it. A pipe isn't, for which a reader would wait.
+fn may_be_read(rt: &impl Files, name: &str) -> bool {
+    match fs::metadata(rt, name) {
+        Ok(metadata) => metadata.is_file(),
+        Err(_) => true,
     }
 }
 
@@ -125,7 +133,7 @@ fn read_folder<R: Files + AllocGlobal + Clone + Drop>(
         let path = String::from_str(rt.alloc(), entry.path().as_str())?;
         if entry.file_type()?.is_dir() {
             folders.push(path)?;
-        } else if has_ending(path.as_str()) && !is_folder(rt, path.as_str()) {
+        } else if has_ending(path.as_str()) && may_be_read(rt, path.as_str()) {
             files.push(path)?;
         }
     }
