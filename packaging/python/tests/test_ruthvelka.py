@@ -142,6 +142,10 @@ class Lists(unittest.TestCase):
         self.assertEqual([bool(it) for it in Answer], [False, True, False])
         same = [Query(QueryKind.IS_SUBTYPE, 0, 1, 1, it) for it in range(3)]
         self.assertEqual(ruthvelka.ask(modules, same), [Answer.NO, Answer.YES, Answer.UNKNOWN])
+        for place in range(5):
+            for wrong in (1 << 32, -1):
+                with self.assertRaises(ruthvelka.BadCall):
+                    ruthvelka.ask(modules, [same[0]._replace(**{Query._fields[place]: wrong})])
 
 
 class FailsClosed(unittest.TestCase):
@@ -271,7 +275,7 @@ class Handles(unittest.TestCase):
             (ValueType(null, HeapType.I31), ValueType(null, HeapType.EQ), True),
         ):
             self.assertIs(types.matches(first, second), wanted, f"{first} {second}")
-        for kind, heap in ((ValueKind.I32, HeapType.FUNC), (reference, None), (null, None), (ValueKind.V128, above)):
+        for kind, heap in ((ValueKind.I32, HeapType.FUNC), (reference, None), (null, None), (ValueKind.V128, above), (reference, 0), (null, 0x70)):
             with self.assertRaises(ruthvelka.BadCall):
                 ValueType(kind, heap)
 
@@ -375,6 +379,16 @@ class Handles(unittest.TestCase):
             validator.reset()
             self.assertLess(len(arena.blocks), before)
             validator.close()
+            self.assertEqual((arena.blocks, arena.wrong), (set(), 0))
+
+    def test_what_is_dropped_behind_its_thread(self):
+        with Arena() as arena:
+            kept = []
+            in_another_thread(lambda: kept.extend((Validator(), Validator())))
+            in_another_thread(lambda: kept.append(Validator().validate(WHOLE)))
+            self.assertGreater(len(arena.blocks), 0)
+            kept.clear()
+            gc.collect()
             self.assertEqual((arena.blocks, arena.wrong), (set(), 0))
 
 

@@ -14,6 +14,8 @@ _KNOWN = sum(it.value for it in WasmFeatures if it.value & (it.value - 1) == 0)
 
 
 class Verdict(enum.Enum):
+    """What is said of one module of a list."""
+
     VALID = "valid"
     REFUSED = "refused"
     NO_MEMORY = "no memory"
@@ -35,7 +37,7 @@ class Kind(enum.IntEnum):
 
 
 class BadCall(ValueError):
-    """The call is wrong: a feature that isn't known."""
+    """The call is wrong: a feature that isn't known, a number that is no index, a handle in another thread or of another validator."""
 
 
 class Refused(Exception):
@@ -48,7 +50,7 @@ class Refused(Exception):
 
     def __str__(self) -> str:
         shown = "".join(it if it.isprintable() else it.encode("unicode_escape").decode() for it in self.message)
-        return f"refused at {self.offset}: {shown}"
+        return f"refused at {self.offset}: {shown}" if shown else f"refused at {self.offset}"
 
 
 @dataclass(frozen=True)
@@ -105,6 +107,8 @@ class Export(Extern):
 
 
 class QueryKind(enum.IntEnum):
+    """What a `Query` asks."""
+
     IS_SUBTYPE = 0
     MAY_BE_GIVEN = 1
 
@@ -226,6 +230,12 @@ def _listed(modules: Sequence[bytes]) -> ctypes.Array[c.Bytes]:
     return (c.Bytes * len(modules))(*((it, len(it)) for it in modules))
 
 
+def _number(it: int) -> int:
+    if not 0 <= it < 1 << 32:
+        raise BadCall(f"{it} is no index")
+    return it
+
+
 def _done(result: int) -> None:
     if result == c.NO_MEMORY:
         raise MemoryError("memory was refused for the list")
@@ -234,7 +244,8 @@ def _done(result: int) -> None:
 
 
 def validate_list(modules: Sequence[Data], features: WasmFeatures = WasmFeatures.STANDARD) -> list[Result]:
-    """What is said of each of these modules, which share one space of ids. Behind one that is refused for more than a body the rest aren't checked."""
+    """What is said of each of these modules, which share one space of ids. Behind one that is refused for more than a body the rest aren't checked. A refusal has an
+    offset and no message here: `validate` of that module alone has it."""
     whole = [_bytes(it) for it in modules]
     count, room = len(whole), sum(map(len, whole))
     reports = (c.Report * count)(*(_report() for _ in whole))
@@ -257,8 +268,8 @@ def validate_list(modules: Sequence[Data], features: WasmFeatures = WasmFeatures
 
 
 def ask(modules: Sequence[Data], queries: Sequence[Query], features: WasmFeatures = WasmFeatures.STANDARD) -> list[Answer]:
-    """The answers to questions about the valid modules of a list."""
+    """The answers to questions about the valid modules of a list. A number in a question that isn't below 2 to the 32 is a `BadCall`."""
     whole = [_bytes(it) for it in modules]
-    asked = (c.Query * len(queries))(*((*it, Answer.UNKNOWN.value) for it in queries))
+    asked = (c.Query * len(queries))(*((*map(_number, it), Answer.UNKNOWN.value) for it in queries))
     _done(c.calls.ruthvelka_validate_list_with_queries(_listed(whole), len(whole), _bits(features), None, 0, asked, len(queries)))
     return [Answer(it.answer) for it in asked]

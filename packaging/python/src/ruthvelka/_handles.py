@@ -1,7 +1,7 @@
 """Validators that live between calls, and the types that they keep, over the handles of ruthvelka.h.
 
 A handle is a place that only the library reads and writes: it is never copied here, each is freed once, and all that belong to one validator are used
-in the thread that made it. What another thread drops waits for the next call in the validator's own."""
+in the thread that made it. What another thread drops waits for the next call in the validator's own, or is freed at once where that has ended."""
 from __future__ import annotations
 
 import ctypes
@@ -12,7 +12,7 @@ from dataclasses import dataclass
 from typing import NoReturn, Optional, TypeVar, Union
 
 from . import _library as c
-from ._calls import BadCall, Data, Refused, TypeId, _bits, _bytes, _numbers
+from ._calls import BadCall, Data, Refused, TypeId, _bits, _bytes, _number, _numbers
 from ._features import WasmFeatures
 
 _MESSAGE_ROOM = 512
@@ -43,6 +43,8 @@ class HeapType(enum.IntEnum):
 
 
 class ValueKind(enum.IntEnum):
+    """The kinds of value types, by their bytes in the binary format."""
+
     I32 = 0x7F
     I64 = 0x7E
     F32 = 0x7D
@@ -60,30 +62,38 @@ class ValueType:
     heap: Union[HeapType, TypeId, None] = None
 
     def __post_init__(self) -> None:
-        if (self.heap is not None) != (self.kind in (ValueKind.REFERENCE, ValueKind.NULL_OR_REFERENCE)):
-            raise BadCall(f"{self.kind.name} with the heap type {self.heap}")
+        wanted = (HeapType, TypeId) if self.kind in (ValueKind.REFERENCE, ValueKind.NULL_OR_REFERENCE) else type(None)
+        if not isinstance(self.heap, wanted):
+            raise BadCall(f"{ValueKind(self.kind).name} with the heap type {self.heap!r}")
 
 
 class _Owner:
     """What a validator and the types from it share: their thread, and the handles that another thread has dropped."""
 
     def __init__(self) -> None:
-        self.thread, self.dropped = threading.get_ident(), []
+        self.thread, self.dropped, self.ending = threading.current_thread(), [], threading.RLock()
 
     def enter(self) -> None:
         """Begins each call: it must be in the right thread, which frees what others have dropped."""
-        if threading.get_ident() != self.thread:
+        if threading.current_thread() is not self.thread:
             raise BadCall("a validator, and the types from it, stay in the thread that made the validator")
+        self.free_dropped()
+
+    def free_dropped(self) -> None:
         while self.dropped:
             call, handle = self.dropped.pop()
             call(handle)
 
 
 def _free(owner: _Owner, call: ctypes._CFuncPtr, handle: c.Handle) -> None:
-    if threading.get_ident() == owner.thread:
+    if threading.current_thread() is owner.thread:
         call(handle)
-    else:
-        owner.dropped.append((call, handle))
+        return
+    owner.dropped.append((call, handle))
+    if not owner.thread.is_alive():
+        # nobody uses what belongs to that validator any more but who frees it, one at a time
+        with owner.ending:
+            owner.free_dropped()
 
 
 class _Handle:
@@ -113,12 +123,6 @@ class _Handle:
 
     def __reduce__(self) -> NoReturn:
         raise TypeError(f"a {type(self).__name__} can't be copied")
-
-
-def _number(it: int) -> int:
-    if not 0 <= it < 1 << 32:
-        raise BadCall(f"{it} is no index")
-    return it
 
 
 def _done(status: int, what: str) -> None:
@@ -184,7 +188,7 @@ class Types(_Handle):
     def _sent(self, it: ValueType) -> c.ValueType:
         if isinstance(it.heap, TypeId):
             return c.ValueType(ctypes.sizeof(c.ValueType), it.kind, 0, self._own(it.heap))
-        return c.ValueType(ctypes.sizeof(c.ValueType), it.kind, it.heap or 0, 0)
+        return c.ValueType(ctypes.sizeof(c.ValueType), it.kind, 0 if it.heap is None else it.heap, 0)
 
     def matches(self, first: ValueType, second: ValueType) -> bool:
         """Whether a value of the first type may stand where one of the second is wanted."""
@@ -208,7 +212,7 @@ class Validator(_Handle):
     types of its modules have equal ids exactly where they are equal.
 
     A module that isn't valid up to its bodies may leave it unable to go on, and then it says `Failed` for good: where modules come from strangers, ask
-    `is_valid` about each first, which is by itself."""
+    `is_valid` about each first, with the same features, which is by itself. One that has more types than ids are left fails it even so."""
 
     def __init__(self, features: WasmFeatures = WasmFeatures.STANDARD) -> None:
         bits = _bits(features)
