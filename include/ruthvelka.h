@@ -45,18 +45,22 @@
    with that module's types, whatever its bodies are. Any other module that it refuses, and memory
    that it is refused within a module, may leave it unable to go on: it then says
    RUTHVELKA_STATUS_FAILED, and says so for good. Types that it gave keep what they are. A host
-   whose modules come from strangers asks ruthvelka_check about each of them first, by itself.
+   whose modules come from strangers asks ruthvelka_check about each of them first, by itself and
+   under the same features. One way is left then: a module with more different types than the
+   validator has ids left fails it too. So such a host counts the types that it lets in, which are
+   at most `types` of each outcome, or makes a new validator.
 
    Structures that grow. One that is read or written begins with its size, which the caller sets:
-   `struct ruthvelka_outcome outcome = {sizeof outcome};`. A later version of the library writes no
-   more than that size, and an earlier one no more than it knows, so set the others to 0 before. Of
-   an array of structures the caller sets the size of the first item, which is that of each.
+   `struct ruthvelka_outcome outcome = {sizeof outcome};`, or `{.size = sizeof outcome}` where the
+   compiler warns of the other. A later version of the library writes no more than that size, and
+   an earlier one no more than it knows, so set the others to 0 before. Of an array of structures the caller sets the size of the first item, which is that of each.
 
    Memory comes from malloc, realloc and free; in a call on a handle from the allocator that its
    validator was made with, if it was made with one; and in a call without a handle from what
    ruthvelka_set_allocator was given. Where a request is refused the status is
-   RUTHVELKA_STATUS_NO_MEMORY, or, where only a message wanted it, the right one without a
-   message; and all that was taken is given back, but for what handles hold.
+   RUTHVELKA_STATUS_NO_MEMORY, unless the call can do without that memory: then it is the right
+   one, without a message where only that wanted it. All that was taken is given back, but for what
+   handles hold.
 
    Messages. The message of a refusal is UTF-8, without a zero behind it. It may quote a name of
    the module: "duplicate export name `a` already defined". The name is the module's, and may hold
@@ -74,7 +78,7 @@
 
    Wrong calls. A pointer may be null where its count is 0; an outcome, and the handle for the types
    of a module, may always be null. Any other null pointer, a count of items that no object can have
-   (more than PTRDIFF_MAX bytes), an outcome whose size ends before its status does, an array whose
+   (more than PTRDIFF_MAX bytes), an outcome whose size ends before its function does, an array whose
    items are of another size than this library knows, a handle to be filled that holds something,
    and a bit of `features` that no feature has make the status RUTHVELKA_STATUS_WRONG, and nothing
    is written but an outcome. Calls that give no status say
@@ -89,10 +93,11 @@
    import or export 100,000 bytes, and the work on a body is at most a constant times its bytes
    times 10,000, the limit on fields, and linear for all that compilers write; without it, it is
    the product of the parameters, results and fields of types and the operators that have them.
-   That is measured, not proved. A host that takes modules from strangers sets it, and a limit on
-   the bytes of a module besides. A refusal by one of these
-   limits has no proposal in missing_features: what would lift it is to leave
-   RUTHVELKA_CRATE_LIMITS out.
+   That is measured, not proved, and 100,000 bytes can still take some 40 seconds or 400
+   megabytes. A host that takes modules from strangers sets it, leaves RUTHVELKA_COMPACT_IMPORTS
+   out, limits the bytes of a module, and ends what takes too long, as by a process of its own.
+   A refusal by one of these limits has no proposal in missing_features: what would lift it is to
+   leave RUTHVELKA_CRATE_LIMITS out.
 
    Left out. Components are refused under all features. These are refused without a feature of
    their own, which RUTHVELKA_STANDARD doesn't have:
@@ -656,8 +661,11 @@ struct ruthvelka_extern_type {
                == RUTHVELKA_STATUS_DONE
            && outcome.names_length <= sizeof names)
            for (uint64_t i = 0; i < outcome.imports && i < 64; i++)
-               if (imports[i].kind == RUTHVELKA_MEMORY)
-                   reserve(imports[i].minimum << imports[i].page_size_log2); */
+               if (imports[i].kind == RUTHVELKA_MEMORY) {
+                   if (imports[i].minimum > SIZE_MAX >> imports[i].page_size_log2)
+                       return refuse();
+                   reserve(imports[i].minimum << imports[i].page_size_log2);
+               } */
 uint32_t ruthvelka_types_externs(struct ruthvelka_types *types,
     struct ruthvelka_outcome *outcome, struct ruthvelka_extern_type *imports, size_t import_room,
     struct ruthvelka_extern_type *exports, size_t export_room, char *names, size_t name_room);
@@ -746,7 +754,8 @@ struct ruthvelka_body {
    docs/DECISIONS.md of the repository has the whole reason, under "There is no call for one body".
    A host with several threads shares the bodies out by copies: each thread gets the module with
    each body that isn't its own made one that is valid for any function, of the same size: no
-   locals, `unreachable`, and `nop` up to the `end` (00 00 01 .. 01 0b; a body of two bytes stays).
+   locals, `unreachable`, and `nop` up to the `end` (00 00 01 .. 01 0b). A body of at most two bytes
+   stays as it is: in bytes that aren't valid there may be one of none.
    Bodies are valid each by itself, under what the sections say (Validation, Modules), so the module
    is valid exactly where ruthvelka_check says so of each such copy.
 

@@ -46,7 +46,7 @@ static void link_import(struct loaded *modules, int count, uint32_t number) {
     print_escaped(importer->names + wanted->name_start, wanted->name_length), printf(": %s\n", answer);
 }
 
-/* Loads one module behind the others. The validator sees only what is valid by itself, so no module can make it fail. */
+/* Loads one module behind the others. The validator sees only what is valid by itself, so only one with more types than ids are left can make it fail. */
 static int load(struct ruthvelka_validator *validator, const char *file, struct loaded *modules, int count) {
     size_t length;
     struct ruthvelka_outcome outcome = {.size = sizeof outcome};

@@ -22,7 +22,7 @@ def link(loaded, types, number, name):
 
 
 def load(validator, data, loaded):
-    """Loads one module behind the others. The validator sees only what is valid by itself, so no module can make it fail."""
+    """Loads one module behind the others. The validator sees only what is valid by itself, so only one with more types than ids are left can make it fail."""
     validate(data)
     types = validator.validate(data)
     imports, exports = imports_and_exports(data)

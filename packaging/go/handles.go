@@ -95,7 +95,7 @@ func (it *handle) close() {
 // its modules have equal ids exactly where they are equal. It may be used by any goroutine: its calls are made one after another, on a thread of its own.
 //
 // A module that isn't valid up to its bodies may leave it unable to go on, and then it says ErrFailed for good: where modules come from strangers, call
-// Validate, the function, on each first, which is by itself.
+// Validate, the function, on each first, with the same features, which is by itself. One that has more types than ids are left fails it even so.
 type Validator struct {
 	held     *heldValidator
 	features WasmFeatures

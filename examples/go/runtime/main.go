@@ -33,7 +33,7 @@ func link(modules []loaded, types *ruthvelka.Types, number int, name string) str
 	return "not exported"
 }
 
-// load loads one module behind the others. The validator sees only what is valid by itself, so no module can make it fail.
+// load loads one module behind the others. The validator sees only what is valid by itself, so only one with more types than ids are left can make it fail.
 func load(validator *ruthvelka.Validator, data []byte, modules []loaded) ([]loaded, error) {
 	if _, err := ruthvelka.Validate(data, ruthvelka.Standard); err != nil {
 		return modules, err

@@ -25,7 +25,7 @@ fn link(loaded: &[Loaded], types: &Types, number: u32, name: &str) -> &'static s
     "not exported"
 }
 
-/// Loads one module behind the others. The validator sees only what is valid by itself, so no module can make it fail.
+/// Loads one module behind the others. The validator sees only what is valid by itself, so only one with more types than ids are left can make it fail.
 fn load(validator: &mut Validator, bytes: &[u8], loaded: &mut Vec<Loaded>) -> Result<()> {
     validate(bytes)?;
     let types = validator.validate_all(bytes)?;
