@@ -268,6 +268,10 @@ static void check_types(const uint8_t *bytes, size_t length, uint64_t features, 
     const uint32_t status = ruthvelka_validator_validate(&validator, bytes, length, NULL, 0, &outcome, NULL);
     CHECK((status == RUTHVELKA_STATUS_VALID) == (wanted->verdict == RUTHVELKA_VALID), "a validator's verdict");
     CHECK((ruthvelka_validator_types(&validator, &types) == RUTHVELKA_STATUS_DONE) == (status == RUTHVELKA_STATUS_VALID), "a validator's last types");
+    const uint32_t reset = ruthvelka_validator_reset(&validator);
+    CHECK(reset == RUTHVELKA_STATUS_DONE || (reset == RUTHVELKA_STATUS_FAILED && status != RUTHVELKA_STATUS_VALID), "a validator's reset");
+    CHECK(ruthvelka_validator_validate(&validator, ONE_TYPE, sizeof ONE_TYPE, NULL, 0, NULL, NULL)
+            == (reset == RUTHVELKA_STATUS_DONE ? RUTHVELKA_STATUS_VALID : RUTHVELKA_STATUS_FAILED), "a module behind a reset");
     ruthvelka_validator_free(&validator);
     if (status == RUTHVELKA_STATUS_VALID) {
         memset(names, MARK, sizeof names), memset(kept_names, MARK, sizeof kept_names);
