@@ -167,8 +167,8 @@ class Scan:
         self.number(64)
         if flags & 1:
             self.number(64)
-        if flags & 8:
-            self.number()
+        if flags & 8 and self.number() not in (0, 16):
+            self.need("other_page_sizes")
 
     def count(self, kind, feature, how_many=1):
         self.counts[kind] = self.counts.get(kind, 0) + how_many
