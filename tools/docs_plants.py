@@ -80,6 +80,7 @@ PLANTS = [
     ("a moved file of definitions, as a link", "docs/SPECIFICATION.md", r"wasm_spec/specs/Values\.antt#", "wasm_spec/specs/Numbers.antt#", "links"),
     ("a definition that begins to rest on another", "crates/wasm_spec/specs/Matching.antt", r"^top_of any_heap = any_heap", "top_of any_heap = eq_or_any any_heap\\n\\nabbrev pub eq_or_any : AbstractHeap → AbstractHeap\\neq_or_any k = k", "specification"),
     ("a definition that rests on less", "crates/wasm_validator/specs/Headline.antt", r" × \(canonical F ≡ false → AreUnderOneId \(refs_val v\) \(refs_val w\)\)", "", "specification"),
+    ("a definition that names a later one", "crates/wasm_spec/specs/Values.antt", r"^use Rattle\.std\.specs\.Str\.\{is_utf8\}([^\0]*?)^u32_at = unsigned_at 32", r"use Rattle.std.specs.Str.{is_utf8}\nuse Rattle.wasm_spec.specs.Limits.{most_locals}\1u32_at = unsigned_at most_locals", "specification"),
     ("a clause that names less", "crates/wasm_validator/src/list.rt", r"IfOk r HoldsTypes\)", "IfOk r (λ t. true ≡ true))", "specification"),
     ("another number of lines to trust", "README.md", HEAD, "Trust 5,000 lines of definitions.", "counts"),
     # what is made from the sources

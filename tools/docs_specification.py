@@ -32,14 +32,13 @@ CHAPTERS = [
         "Which types are valid with which features, when two recursive types are equal, and which types match.",
         "wasm_spec/Features wasm_readers_features/ProposalFlags wasm_spec_rules/FeatureFlags wasm_spec/References wasm_spec/Trees wasm_spec/TypeLaws wasm_spec/Closing "
         "wasm_spec/SupertypeOrder wasm_spec/ValueTypes wasm_spec/Limits wasm_spec/CrateLimits wasm_spec/Defaults wasm_spec/Matching wasm_spec/GroupRules wasm_spec/LinkMatching "
-        "wasm_spec/MatchingTests "
-        "wasm_spec_rules/Worlds",
+        "wasm_spec/MatchingTests",
     ),
     (
         "Modules and items",
         "The rules of what a module has, apart from its expressions and bodies.",
         "wasm_spec_rules/Signatures wasm_spec_rules/IndexSpaces wasm_spec_rules/ItemRules wasm_spec_rules/LinkRules wasm_spec_rules/SegmentRules "
-        "wasm_spec_rules/Limits wasm_spec_rules/Modules wasm_spec_rules/Contexts",
+        "wasm_spec_rules/Limits wasm_spec_rules/Modules wasm_spec_rules/Contexts wasm_spec_rules/Worlds",
     ),
     (
         "Instructions: how they are written",
@@ -48,14 +47,14 @@ CHAPTERS = [
         "wasm_operators_plain/Variables wasm_operators_plain/Calls "
         "wasm_operators_plain/Tables wasm_operators_plain/Memories wasm_operators_plain/Structs wasm_operators_plain/Arrays "
         "wasm_operators_plain/Conversions wasm_operators_vector/Tables wasm_operators_vector/Codes wasm_operators_atomic/Codes wasm_operators_atomic/WideArithmetic "
-        "wasm_operators_atomic/SharedCodes wasm_operators_proposals/Accesses wasm_operators_proposals/Continuations wasm_operators/FormImmediates "
+        "wasm_operators_atomic/SharedCodes wasm_operators_proposals/Accesses wasm_operators_proposals/Continuations wasm_operators_vector/Forms "
+        "wasm_operators_atomic/Forms wasm_operators_atomic/SharedForms wasm_operators/FormImmediates "
         "wasm_operators/Control wasm_operators/References wasm_operators/Legacy wasm_operators/Instructions wasm_spec_steps/Sequences",
     ),
     (
         "Instructions: the table",
-        "What each instruction checks, takes and gives: once, for the rules and for the algorithm.",
-        "wasm_operators_plain/Signatures wasm_operators_vector/Forms wasm_operators_atomic/Forms wasm_operators_atomic/SharedForms "
-        "wasm_spec_steps/Actions wasm_spec_steps/Forms "
+        "What each instruction checks, takes and gives: once, for the rules and for the algorithm. `Kind`, what opened a frame, is in part 6.",
+        "wasm_operators_plain/Signatures wasm_spec_steps/Actions wasm_spec_steps/Forms "
         "wasm_spec_steps/Shapes wasm_spec_steps/ConstantExpressions",
     ),
     (
@@ -95,6 +94,8 @@ CHAPTERS = [
     ),
 ]
 ALGORITHM = "Instructions: the algorithm of the standard's appendix"
+# What an earlier part may name of a later one: its text says so.
+NAMED_BEFORE = {("wasm_spec_steps", "Kind")}
 SECTIONS = {
     "wasm_operators_atomic/Codes": MEMORY,
     "wasm_operators_atomic/Forms": THREADS,
@@ -193,7 +194,7 @@ OTHERS = (
 )
 TOLD = (
     "What the clauses `told` of the methods of `Validator` say: of calls out of order, and of sections of types, imports, functions, memories, tags and "
-    "exports the fault, its offset and the missing proposal."
+    "exports the fault, its offset and the missing proposal (of malformed items less: docs/THEOREM.md)."
 )
 MEANT = (
     "Contracts see a type with an `impl Model` by its `Value`. Here are the `view` that gives this value, the `invariant` that is proved of each value, and "
@@ -277,6 +278,15 @@ def chapters_of(statement):
     if left:
         stop(f"docs_specification.py: no chapter has {', '.join(sorted({it.module.path for it in left}))}")
     return found
+
+
+def named_too_early(statement):
+    """Definitions of the theorem that name one in a later file of its reading order, with that one."""
+    places = {it.key: place for place, (_, its) in enumerate(one for _, _, files in chapters_of(statement) for one in files) for it in its}
+    for it in statement.items(0):
+        for kind, used, *_ in statement.used(("item", it), False):
+            if kind == "item" and places.get(used.key, 0) > places[it.key] and (used.module.crate, used.name) not in NAMED_BEFORE:
+                yield it, used
 
 
 def files_of(statement, part):
@@ -394,5 +404,7 @@ def check_specification(tree):
     for key in rows.keys() & wanted_rows.keys():
         if rows[key][3] != wanted_rows[key][3]:
             yield f"{PAGE}: it has {rows[key][3]} of {rows[key][1]}, and it is {wanted_rows[key][3]}"
+    for it, later in named_too_early(Specification.of(tree).statement):
+        yield f"{PAGE}: {it.name} of {it.module.path} names {later.name}, which stands in a later file"
     if [it for it in wanted if not pattern.match(it)] != [it for it in written if not pattern.match(it)]:
         yield f"{PAGE}: its texts or totals differ from the sources"
