@@ -10,7 +10,7 @@ use crate::settings::Form;
 use crate::{json, lines};
 use std::alloc::{AllocError, Global};
 use wasm_validate_files::Input;
-use wasm_validate_files::validator::{CoreTypeId, TypesRef};
+use wasm_validate_files::validator::{CoreTypeId, EntityType, TypesRef};
 
 /// An index space of a module (Core Specification 3.0, Structure, Modules, Indices).
 #[derive(Clone, Copy)]
@@ -169,11 +169,17 @@ fn write_type(
 {
     match space {
         Space::Types => write_listed(text, shown, shown.core_type_at_in_module(index)),
-        Space::Functions => write_listed(text, shown, shown.core_function_at(index)),
+        Space::Functions => {
+            let id = shown.core_function_at(index);
+            write_by_id(text, EntityType::Func(id), id)
+        }
         Space::Tables => write_plain(text, shown.table_at(index)),
         Space::Memories => write_plain(text, shown.memory_at(index)),
         Space::Globals => write_plain(text, shown.global_at(index)),
-        Space::Tags => write_listed(text, shown, shown.tag_at(index)),
+        Space::Tags => {
+            let id = shown.tag_at(index);
+            write_by_id(text, EntityType::Tag(id), id)
+        }
         Space::Elements => write_plain(text, shown.element_at(index)),
     }
 }
@@ -194,6 +200,17 @@ fn write_listed(
     if let Some(ty) = shown.get(id) {
         write!(text, "{ty}")?;
     }
+    Ok(Some(id.index() as u64))
+}
+
+/// Writes a function or a tag by the id of its type, which has a line of its own: so that what is written
+/// isn't as long as all functions together have parameters.
+fn write_by_id(
+    text: &mut String,
+    entity: EntityType,
+    id: CoreTypeId,
+) -> Result<Option<u64>, AllocError> {
+    write!(text, "{entity}")?;
     Ok(Some(id.index() as u64))
 }
 
