@@ -7,7 +7,7 @@ ghost use Rattle.wasm_check.specs.FoundFiles.{has_ending, IsLookedFor, HasMore, 
 use crate::read::shown_name;
 use std::alloc::{AllocError, Global};
 use std::fs::{self, DirEntry};
-use std::io::{self, Write};
+use std::io::{self, ErrorKind, Write};
 use std::rt::Files;
 use wasm_check_reports::files::Printable;
 
@@ -119,7 +119,11 @@ fn tell<E: Write, D: std::fmt::Display>(err: &mut E, name: &str, problem: &D) {
     let _printed = writeln!(err, "wasm-check: {name}: {problem}");
 }
 
-/// Adds the files and the folders in a folder.
+/// Adds the files and the folders in a folder. Where a name isn't UTF-8 the others are added all the same.
+///
+/// # Errors
+///
+/// Where the folder can't be read, or a name in it isn't UTF-8.
 fn read_folder<R: Files + AllocGlobal + Clone + Drop>(
     rt: &R,
     name: &str,
@@ -128,8 +132,18 @@ fn read_folder<R: Files + AllocGlobal + Clone + Drop>(
 ) -> io::Result<()>
     ensures { All IsLookedFor files.old.items → All IsLookedFor files.new.items }
 {
+    let mut all_named = true;
     'entries: for entry in fs::read_dir(rt, name)? {
-        let entry = entry?;
+        let entry = match entry {
+            Ok(entry) => entry,
+            Err(error) => {
+                if !is_no_text(&error) {
+                    return Err(error);
+                }
+                all_named = false;
+                continue;
+            }
+        };
         let path = String::from_str(rt.alloc(), entry.path().as_str())?;
         if entry.file_type()?.is_dir() {
             folders.push(path)?;
@@ -137,5 +151,14 @@ fn read_folder<R: Files + AllocGlobal + Clone + Drop>(
             files.push(path)?;
         }
     }
-    Ok(())
+    if all_named {
+        return Ok(());
+    }
+    let message = "a name in it is not UTF-8, and what has it is left out";
+    Err(io::Error::new(ErrorKind::InvalidFilename, message))
+}
+
+/// Whether a name in a folder isn't UTF-8.
+fn is_no_text(error: &io::Error) -> bool {
+    error.kind() == ErrorKind::InvalidFilename
 }
