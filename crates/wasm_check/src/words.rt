@@ -119,6 +119,7 @@ pub fn add_small_letters(text: &mut String, name: &str) -> Result<(), AllocError
 
 /// What is said behind a word that selects no features: the one that it most likely means.
 pub fn suggest(alloc: Global, word: &str) -> Result<String, AllocError> {
+    let word = word.trim_start_matches(' ');
     let name = word.trim_start_matches(['+', '-']);
     let sign = if word.starts_with('-') { '-' } else { '+' };
     let mut text = String::new(alloc);
