@@ -235,11 +235,14 @@ def files_below(folder):
 
 
 def try_install(room, wanted, unpacked):
+LIST = "share/doc/ruthvelka/FILES"
+
+
     inside = {it for it in files_below(unpacked) if it.split("/")[0] in ("bin", "include", "lib", "share")}
     # first below another root, so that one which ignores its prefix writes nothing of this machine
     to = room.path("root with spaces/opt/a prefix")
     ran = room.run("sh", f"{unpacked}/install.sh", "--prefix", "/opt/a prefix", DESTDIR=room.path("root with spaces"))
-    there = {f"opt/a prefix/{it}" for it in inside}
+    there = {f"opt/a prefix/{it}" for it in inside | {LIST}}
     is_right = files_below(room.path("root with spaces")) == there if os.path.isdir(room.path("root with spaces")) else False
     report("install.sh installs below its prefix, and nothing else", problem(ran), "" if is_right else "other files are there")
     if not is_right:
@@ -249,11 +252,65 @@ def try_install(room, wanted, unpacked):
     for words, status in ((("--prefix",), 2), (("--prefix=",), 2), (("--no-such-word",), 2)):
         report(f"install.sh refuses {' '.join(words)}", problem(room.run("sh", f"{unpacked}/install.sh", *words, DESTDIR=room.path("never")), status))
     ran = room.run("sh", f"{unpacked}/install.sh", "--prefix=home/mine", at="")
-    report("install.sh takes a prefix from where it is called", problem(ran), "" if files_below(room.path("home/mine")) == inside else "other files are there")
+    is_right = files_below(room.path("home/mine")) == inside | {LIST}
+    report("install.sh takes a prefix from where it is called", problem(ran), "" if is_right else "other files are there")
     ran = room.run("sh", f"{unpacked}/install.sh", "--prefix=home/mine", "--uninstall")
     left = os.path.exists(room.path("home/mine/share/doc/ruthvelka"))
     report("install.sh removes what it installed", problem(ran), *files_below(room.path("home/mine")), "its folder is left" if left else "")
 
+    try_careful_install(room, unpacked, inside)
+
+
+def try_careful_install(room, unpacked, inside):
+    """Whether it says so where it does nothing, and leaves alone what isn't its own."""
+    report("install.sh tells its usage", problem(room.run("sh", f"{unpacked}/install.sh", "--help")))
+    os.symlink(f"{unpacked}/install.sh", room.path("a link to it"))
+    ran = room.run("sh", "./a link to it", "--prefix=home/by link", at="")
+    is_right = files_below(room.path("home/by link")) == inside | {LIST}
+    report("install.sh can be called by a link", problem(ran), "" if is_right else "other files are there")
+    ran = room.run("sh", f"{unpacked}/install.sh", "--prefix=home/nobody", "--uninstall", at="")
+    report("install.sh removes nothing where nothing is installed, and says so", problem(ran, 1))
+    shutil.copytree(unpacked, room.path("unpacked here"), symlinks=True)
+    for words, status in (((), 2), (("--uninstall",), 1)):
+        ran = room.run("sh", "./install.sh", "--prefix", room.path("unpacked here/"), *words, at="unpacked here")
+        kept = files_below(room.path("unpacked here")) == files_below(unpacked)
+        report(" ".join(("install.sh", *words, "leaves its own folder as it is")), problem(ran, status), "" if kept else "files are gone")
+    shutil.rmtree(room.path("unpacked here/lib"))
+    ran = room.run("sh", "./install.sh", "--prefix", room.path("home/part"), at="unpacked here")
+    report("install.sh refuses a part of the archive", problem(ran, 1))
+    try_others_programs(room, unpacked)
+    try_versions(room, unpacked, inside)
+
+
+def try_others_programs(room, unpacked):
+    """Whether a program of another that has the name of ours stays, also where ours was there before it."""
+    place = room.path("home/of another")
+    words = ["sh", f"{unpacked}/install.sh", "--prefix", place]
+    os.makedirs(f"{place}/bin")
+    write(f"{place}/bin/wasm-validate", "of another")
+    ran = room.run(*words)
+    report("install.sh replaces no program that isn't its own", problem(ran, 1), *(files_below(place) - {"bin/wasm-validate"}))
+    os.remove(f"{place}/bin/wasm-validate")
+    first = room.run(*words)
+    write(f"{place}/bin/wasm-validate", "of another")
+    ran = [room.run(*words, *more) for more in ((), ("--uninstall",))]
+    kept = {it: read(f"{place}/{it}") for it in files_below(place)}
+    problems = [problem(first), problem(ran[0], 1), problem(ran[1]), "" if kept == {"bin/wasm-validate": b"of another"} else f"there is {sorted(kept)}"]
+    report("install.sh leaves a program that took the place of its own", *problems)
+
+
+def try_versions(room, unpacked, inside):
+    """Whether another version can be installed over one, and all of both be removed."""
+    older = room.path("an older version")
+    shutil.copytree(unpacked, older, symlinks=True)
+    for it in ("bin/wasm-check", "share/doc/ruthvelka/gone"):
+        write(f"{older}/{it}", "older")
+    words = ["--prefix", room.path("home/versions")]
+    ran = [room.run("sh", f"{it}/install.sh", *words) for it in (older, unpacked, unpacked)]
+    is_right = files_below(room.path("home/versions")) == inside | {LIST}
+    report("install.sh installs a version over another, and again", *map(problem, ran), "" if is_right else "other files are there")
+    ran = room.run("sh", f"{older}/install.sh", *words, "--uninstall")
+    report("install.sh removes what another version installed", problem(ran), *files_below(room.path("home/versions")))
 
 def try_modes(room, unpacked, inside):
     """Whether what is installed has its own modes and the owner that installs it, whoever unpacked it and with which umask."""

@@ -165,6 +165,26 @@ PLANTS = {
     "an install.sh that keeps the umask": (edit_tar(MAIN, "/install.sh", b"umask 022", b":"), "install", "install.sh sets modes and owner"),
     "an install.sh that keeps modes and owner": (
         edit_tar(MAIN, "/install.sh", b"chmod 6", b": 6"), "install", "install.sh sets modes and owner"),
+    "an install.sh that replaces programs of others": (
+        edit_tar(MAIN, "/install.sh", b'&& ! is_listed "$it"', b"&& false"), "install", "install.sh replaces no program that isn't its own"),
+    "an install.sh that removes programs of others": (
+        edit_tar(MAIN, "/install.sh", b'        if is_listed "$it"; then', b"        if true; then"), "install",
+        "install.sh leaves a program that took the place of its own",
+    ),
+    "an install.sh that leaves what a version before had": (
+        edit_tar(MAIN, "/install.sh", b'grep -Fxq -- "$it" && is_listed', b'grep -Fxq -- "$it" && ! is_listed'), "install",
+        "install.sh installs a version over another, and again",
+    ),
+    "an install.sh that follows no link": (
+        edit_tar(MAIN, "/install.sh", b'script=$(readlink -f -- "$0")', b'script=$0'), "install", "install.sh can be called by a link"),
+    "an install.sh that installs over itself": (
+        edit_tar(MAIN, "/install.sh", b'pwd -P)" = "$from"', b'pwd -P)" = "-$from"'), "install", "install.sh leaves its own folder as it is"),
+    "an install.sh that takes a part for the whole": (
+        edit_tar(MAIN, "/install.sh", b"! -type d) || exit 1", b"! -type d) || true"), "install", "install.sh refuses a part of the archive"),
+    "an install.sh that removes what isn't there": (
+        edit_tar(MAIN, "/install.sh", b'[ -f "$list" ] ||', b"true ||"), "install",
+        "install.sh removes nothing where nothing is installed, and says so",
+    ),
     "a pkg-config file that can't be moved": (
         edit_tar(MAIN, "/ruthvelka.pc", b"${pcfiledir}/../..", b"/usr/local"), "library", "C, moved: pkg-config has what a gate is built with"),
     "a page with a mistake": (
