@@ -32,6 +32,13 @@ make_room() {
     room=$(mktemp -d) || exit 2
 }
 
+# Sets `cc` to the C compiler that CC names, a command or one with options.
+find_compiler() {
+    cc=("${CC:-gcc}")
+    if ! command -v "${cc[0]}" >/dev/null; then read -ra cc -d '' <<<"$CC"; fi
+    if [ ${#cc[@]} -eq 0 ]; then cc=(gcc); fi
+}
+
 # Sets the kit's folder and what it says it is, both empty where its command isn't in PATH.
 look_for_kit() {
     local command

@@ -3,6 +3,7 @@ import glob
 import hashlib
 import os
 import re
+import shlex
 import shutil
 import subprocess
 import sys
@@ -234,10 +235,10 @@ def files_below(folder):
     return {os.path.relpath(f"{at}/{it}", folder) for at, _, files in os.walk(folder) for it in files}
 
 
-def try_install(room, wanted, unpacked):
 LIST = "share/doc/ruthvelka/FILES"
 
 
+def try_install(room, wanted, unpacked):
     inside = {it for it in files_below(unpacked) if it.split("/")[0] in ("bin", "include", "lib", "share")}
     # first below another root, so that one which ignores its prefix writes nothing of this machine
     to = room.path("root with spaces/opt/a prefix")
@@ -257,7 +258,6 @@ LIST = "share/doc/ruthvelka/FILES"
     ran = room.run("sh", f"{unpacked}/install.sh", "--prefix=home/mine", "--uninstall")
     left = os.path.exists(room.path("home/mine/share/doc/ruthvelka"))
     report("install.sh removes what it installed", problem(ran), *files_below(room.path("home/mine")), "its folder is left" if left else "")
-
     try_careful_install(room, unpacked, inside)
 
 
@@ -311,6 +311,7 @@ def try_versions(room, unpacked, inside):
     report("install.sh installs a version over another, and again", *map(problem, ran), "" if is_right else "other files are there")
     ran = room.run("sh", f"{older}/install.sh", *words, "--uninstall")
     report("install.sh removes what another version installed", problem(ran), *files_below(room.path("home/versions")))
+
 
 def try_modes(room, unpacked, inside):
     """Whether what is installed has its own modes and the owner that installs it, whoever unpacked it and with which umask."""
@@ -389,7 +390,7 @@ def try_completions(room, wanted, unpacked):
     features = [f"+{it}" for it in asked_features(wanted.help)] + ["default", "all"]
     bash = f'. "{unpacked}/share/bash-completion/completions/wasm-check"; compopt() {{ :; }}; COMP_WORDS=("$@"); COMP_CWORD=$(($# - 1)); ' \
         '_wasm_check; printf "%s\\n" "${COMPREPLY[@]}"'
-    fish = f"source {unpacked}/share/fish/vendor_completions.d/wasm-check.fish; complete -C (string join ' ' -- $argv)"
+    fish = f"source {shlex.quote(unpacked)}/share/fish/vendor_completions.d/wasm-check.fish; complete -C (string join ' ' -- $argv)"
     calls = {
         "bash": ["bash", "--norc", "-c", bash, "bash"],
         "fish": ["fish", "--no-config", "-c", fish],
@@ -440,7 +441,7 @@ def try_debian(room, wanted, path, unpacked):
     report("Debian: its files are those of the archive", *(others - made), "" if len(made) == 5 else made)
     wanted.compare_programs(room, "Debian", f"{to}/usr/bin")
     flags = room.run("pkg-config", "--cflags", "--libs", "ruthvelka", PKG_CONFIG_PATH=f"{to}/usr/lib/x86_64-linux-gnu/pkgconfig").stdout
-    places = [os.path.realpath(it[2:]) for it in flags.split() if it[:2] in ("-I", "-L")]
+    places = [os.path.realpath(it[2:]) for it in shlex.split(flags) if it[:2] in ("-I", "-L")]
     there = [f"{to}/usr/include", f"{to}/usr/lib/x86_64-linux-gnu"]
     report("Debian: pkg-config finds the header and the library", "" if places == [os.path.realpath(it) for it in there] else flags)
     try_dpkg(room, path)
@@ -485,7 +486,7 @@ def try_wheel(room, wanted, path):
     ran = room.run(room.path("venv/bin/python"), "-m", "unittest", "-v", "test_ruthvelka", at="python")
     tests = re.findall(r"(?m)^Ran (\d+) tests", ran.stdout)
     report("wheel: its tests pass", problem(ran), "" if tests and int(tests[0]) >= 30 else "there are fewer")
-    place = room.run("venv/bin/python", "-c", "import ruthvelka; print(ruthvelka.__file__, ruthvelka.__version__)").stdout.split()
+    place = room.run("venv/bin/python", "-c", "import ruthvelka; print(ruthvelka.__file__); print(ruthvelka.__version__)").stdout.splitlines()
     is_there = len(place) == 2 and place[0].startswith(room.path("venv/")) and f"-{place[1]}-" in os.path.basename(path)
     report("wheel: what is imported is what was installed, of its version", "" if is_there else place)
     write(room.path("python/gate.py"), example(readme, "python"))
