@@ -73,6 +73,11 @@ class Release:
     def part(self, name):
         return f"{self.parts}/{name}"
 
+    @property
+    def is_proved(self):
+        """What a description says of it."""
+        return " compiled without its proofs, not a release" if self.version.endswith("-unproved") else " that is proved"
+
     def when(self, form):
         return time.strftime(form, time.gmtime(self.epoch))
 
@@ -193,13 +198,14 @@ def pages(release):
 
 def readme(release):
     return filled(
-        source("packaging/release/README.md"), VERSION=release.version, GLIBC=dotted(release.glibc), LIBRARY_GLIBC=dotted(release.library_glibc))
+        source("packaging/release/README.md"), IS_PROVED=release.is_proved, VERSION=release.version, GLIBC=dotted(release.glibc), LIBRARY_GLIBC=dotted(release.library_glibc))
 
 
 def documents(release):
     """What goes into the folder of documents."""
     return [
         Entry("README.md", readme(release)), Entry("PROOF", release.proof), Entry("CHANGELOG.md", source("CHANGELOG.md")),
+        Entry("SECURITY.md", source("SECURITY.md")),
         Entry("wasm-check.schema.json", source("docs/wasm-check.schema.json")), Entry("LICENSE", source("LICENSE")),
         *(Entry(f"examples/{it}/{file}", source(f"examples/{it}/{file}")) for it in ("c", "cpp") for file in sorted(os.listdir(f"{TOP}/examples/{it}"))),
         *(Entry(f"licenses/{it.path}", it.data) for it in release.licenses),
@@ -255,7 +261,7 @@ def debian_package(release):
     entries = debian_files(release)
     size = str(sum(len(it.data) + 1023 for it in entries) // 1024)
     control = [
-        Entry("control", filled(source("packaging/debian/control"), VERSION=release.of_debian, SIZE=size, GLIBC=dotted(release.glibc))),
+        Entry("control", filled(source("packaging/debian/control"), IS_PROVED=release.is_proved, VERSION=release.of_debian, SIZE=size, GLIBC=dotted(release.glibc))),
         Entry("md5sums", "".join(f"{hashlib.md5(it.data).hexdigest()}  {it.path}\n" for it in sorted(entries) if not it.link).encode()),
         Entry("shlibs", b"libruthvelka 0 ruthvelka\n"),
         Entry("triggers", b"activate-noawait ldconfig\n"),
@@ -280,7 +286,7 @@ def wheel(release):
         Metadata-Version: 2.1
         Name: ruthvelka
         Version: {release.of_python}
-        Summary: Validation of WebAssembly modules, by a validator that is proved
+        Summary: Validation of WebAssembly modules, by a validator{release.is_proved}
         License: Apache-2.0 WITH LLVM-exception
         Classifier: Typing :: Typed
         Requires-Python: >=3.9
