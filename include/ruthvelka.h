@@ -21,8 +21,9 @@
        ruthvelka_validator_free(&validator);
 
    It fails closed. No status is 0, so neither memory that is zero nor an outcome that was never
-   written reads as valid. A call that has an outcome writes it, whatever its status is. Compare
-   with the one status that lets you go on: == RUTHVELKA_STATUS_VALID, and not != REFUSED.
+   written reads as valid. A call that has an outcome writes it, whatever its status is, unless its
+   size ends before its function does. Compare with the one status that lets you go on:
+   == RUTHVELKA_STATUS_VALID, and not != REFUSED.
 
    Handles. `struct ruthvelka_validator` and `struct ruthvelka_types` are handles: places that only
    these calls read and write. The library trusts its caller for three things, which it can't test:
@@ -51,9 +52,11 @@
    at most `types` of each outcome, or makes a new validator.
 
    Structures that grow. One that is read or written begins with its size, which the caller sets:
-   `struct ruthvelka_outcome outcome = {sizeof outcome};`, or `{.size = sizeof outcome}` where the
-   compiler warns of the other. A later version of the library writes no more than that size, and
-   an earlier one no more than it knows, so set the others to 0 before. Of an array of structures the caller sets the size of the first item, which is that of each.
+   `struct ruthvelka_outcome outcome = {sizeof outcome};`. Where the compiler warns of that, C has
+   `{.size = sizeof outcome}`, and C++ `struct ruthvelka_outcome outcome = {};` and then
+   `outcome.size = sizeof outcome;`. A later version of the library writes no more than that size,
+   and an earlier one no more than it knows, so set the others to 0 before. Of an array of
+   structures the caller sets the size of the first item, which is that of each.
 
    Memory comes from malloc, realloc and free; in a call on a handle from the allocator that its
    validator was made with, if it was made with one; and in a call without a handle from what
@@ -81,8 +84,8 @@
    (more than PTRDIFF_MAX bytes), an outcome whose size ends before its function does, an array whose
    items are of another size than this library knows, a handle to be filled that holds something,
    and a bit of `features` that no feature has make the status RUTHVELKA_STATUS_WRONG, and nothing
-   is written but an outcome. Calls that give no status say
-   themselves what they do. Arrays that are written need not be initialized.
+   is written but an outcome. Calls that give no status say themselves what they do. Arrays that are
+   written need not be initialized.
 
    Arrays that are written. Each comes with the count of items that there is room for in it. No
    more are written, and what is behind them stays as it was. The outcome says how many there are:
@@ -91,13 +94,15 @@
    Gates. With RUTHVELKA_CRATE_LIMITS a function type has at most 1,000 parameters and 1,000
    results, a structure type 10,000 fields, a try_table 10,000 catch clauses, and a name of an
    import or export 100,000 bytes, and the work on a body is at most a constant times its bytes
-   times 10,000, the limit on fields, and linear for all that compilers write; without it, it is
-   the product of the parameters, results and fields of types and the operators that have them.
-   That is measured, not proved, and 100,000 bytes can still take some 40 seconds or 400
-   megabytes. A host that takes modules from strangers sets it, leaves RUTHVELKA_COMPACT_IMPORTS
-   out, limits the bytes of a module, and ends what takes too long, as by a process of its own.
-   A refusal by one of these limits has no proposal in missing_features: what would lift it is to
-   leave RUTHVELKA_CRATE_LIMITS out.
+   times 10,000, the limit on fields, and linear for all that compilers write; without it, it is the
+   product of the parameters, results and fields of types and the operators and functions that have
+   them. That is measured, not proved, and 100,000 bytes can still take some 40 seconds or 400
+   megabytes. While a list grows, an allocator of the host's own is asked for up to three times
+   that, since the old list and the new one stand together. A handle takes some three kilobytes,
+   however small its module is. A host that takes modules from strangers sets
+   RUTHVELKA_CRATE_LIMITS, leaves RUTHVELKA_COMPACT_IMPORTS out, limits the bytes of a module, and
+   ends what takes too long, as by a process of its own. A refusal by one of these limits has no
+   proposal in missing_features: what would lift it is to leave RUTHVELKA_CRATE_LIMITS out.
 
    Left out. Components are refused under all features. These are refused without a feature of
    their own, which RUTHVELKA_STANDARD doesn't have:
@@ -126,7 +131,8 @@
    nothing in the bytes of a module.
 
    Build with `pkg-config --cflags --libs ruthvelka`, or with include/ in the path and
-   libruthvelka.a. It is for x86-64 Linux (x86-64-v2). */
+   libruthvelka.a. It is for x86-64 Linux (x86-64-v2). The static library has other functions too
+   whose names begin with rattle_ or ruthvelka_: a program that is linked with it has none such. */
 #ifndef RUTHVELKA_H
 #define RUTHVELKA_H
 
@@ -370,10 +376,11 @@ struct ruthvelka_side_tables {
    within its body: the entry behind a branch is `entries[tables[i].start + next]`. Message and
    outcome are as of ruthvelka_check.
 
-   The module is validated once, and its tables are made meanwhile: so the call takes as long as
-   ruthvelka_check and a part more, however many bodies there are. One that isn't valid is looked at
-   twice, the first time up to where it isn't. What is told is kept until the module is known to be
-   valid, so the call takes as much memory again as all tables and entries, whatever the room is.
+   The module is validated once, and its tables are made meanwhile, however many bodies there are:
+   so for compiled code the call takes less than twice as long as ruthvelka_check, and for code of
+   branches alone up to five times as long. One that isn't valid is looked at twice, the first time
+   up to where it isn't. What is told is kept until the module is known to be valid, so the call
+   takes as much memory again as all tables and entries, whatever the room is.
 
    Result: DONE; REFUSED, where the module isn't valid; NO_MEMORY; or WRONG. WRONG too where the
    module is valid and the end of a body lies past 4 GiB; where there is room and there are no
@@ -587,12 +594,16 @@ uint32_t ruthvelka_types_matches(struct ruthvelka_types *types,
    type matches that of the import (Validation, Matching, External Types): functions by declared
    supertypes, tags by equal types, globals, tables and memories by what they hold, their limits
    and their flags. Names aren't compared. Numbers are as ruthvelka_types_externs has them, from 0
-   on. The two modules are of one validator, and the handles two places. It takes time that
-   grows with the numbers.
+   on. The two modules are of one validator, and the handles two places: for a module with itself
+   ruthvelka_types_retain gives the second one.
+
+   It takes time that grows with the numbers, so that to link each import of a module takes time
+   that grows with the square of how many it has: 40,000 imports of four bytes took seven seconds. A
+   host limits the imports of modules from strangers (`imports` of the outcome).
 
    Result: RUTHVELKA_YES where this is so; RUTHVELKA_NO everywhere else, also where there is no
-   such export or import, the modules are of two validators, or a handle holds no types. Threads:
-   the validator's.
+   such export or import, the modules are of two validators, both handles are one place, or a handle
+   holds no types. Threads: the validator's.
 
        if (ruthvelka_types_entity_may_be_given(&library, 0, &program, 3) == RUTHVELKA_YES)
            link_import(3, 0); */
@@ -618,7 +629,7 @@ uint32_t ruthvelka_types_entity_may_be_given(struct ruthvelka_types *exporter, u
 #define RUTHVELKA_IS_MUTABLE 8  /* a global: it can be written */
 
 /* An import or an export: its names, which are parts of the text of all names, so many bytes from
-   that start on; and its whole type. What its kind doesn't have is 0. */
+   that start on; and its whole type. What its kind doesn't have is 0, but for the sizes. */
 struct ruthvelka_extern_type {
     /* sizeof(struct ruthvelka_extern_type): given of the first item, and written */
     uint64_t size;
@@ -779,8 +790,9 @@ uint32_t ruthvelka_bodies(const uint8_t *bytes, size_t length, uint64_t *count,
    zero behind it, and of any characters, so it has to be escaped, as a message.
 
    Result: DONE; or NONE, where there is no such name, REFUSED, where the bytes aren't divided as a
-   module's are, or WRONG: then the length is 0, and nothing is written. It takes no memory.
-   Threads: any, side by side.
+   module's are, or WRONG: then the length is 0, and nothing is written. It takes no memory. Each
+   call goes over the whole module: ask for the name of the function that a message is about, and
+   not of each function. Threads: any, side by side.
 
        char name[64];
        uint64_t all;
@@ -796,7 +808,7 @@ uint32_t ruthvelka_function_name(const uint8_t *bytes, size_t length, uint32_t f
    Their verdicts begin with 0 for a valid module, so a report that was set to 0 and never written
    reads as valid. ruthvelka_check has what ruthvelka_validate has, and handles have all else.
    What is said above of outcomes holds of their reports, which may be null; a wrong call gives
-   RUTHVELKA_BAD_CALL, and writes nothing but its report. */
+   RUTHVELKA_BAD_CALL, and writes nothing but its report, or for a list not even that. */
 
 /* Verdicts. */
 #define RUTHVELKA_VALID 0        /* the bytes are a valid module */

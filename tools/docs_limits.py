@@ -177,7 +177,7 @@ FOR_GATES = [
     "takes modules from strangers switches it on. A refusal by one of them names no missing feature: to leave `CRATE_LIMITS` out is what would lift it.",
     "With it the work on a body is at most a constant times its bytes times 10,000, the limit on the fields of a structure type (`struct.new_default` looks "
     "at each), where a catch clause or a handler counts as an operator, and linear for all that compilers write; without it, it is the product of the "
-    "parameters, results and fields of types and the operators that have them. That is read from the code and measured, not proved. The work and the memory "
+    "parameters, results and fields of types and the operators and functions that have them. That is read from the code and measured, not proved. The work and the memory "
     "of an entry of several imports (`COMPACT_IMPORTS`) are the product of the length of its module's name and their number. SECURITY.md says what that can "
     "take, and what a host does besides.",
 ]

@@ -315,7 +315,8 @@ func (it *Types) IsSubtype(first, second TypeID) bool {
 }
 
 // MayBeGiven says whether the export of this module with that number may be given for an import of another one, of the same validator. Numbers are as
-// Externs has them, and names aren't compared. It is false where one of the two isn't there, or is closed.
+// Externs has them, and names aren't compared. It is false where one of the two isn't there, or is closed. It takes time that grows with the numbers: to link
+// each import of a module takes the square of how many there are.
 func (it *Types) MayBeGiven(exported uint32, importer *Types, imported uint32) bool {
 	if it.held.thread != importer.held.thread {
 		return false

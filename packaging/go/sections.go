@@ -90,7 +90,7 @@ func Bodies(data []byte) ([]Body, error) {
 }
 
 // FunctionName is the name that a module gives the function of this index, imported ones counted, and whether it gives one. It is the module's own word:
-// it may hold any characters, and may be the name of another function.
+// it may hold any characters, and may be the name of another function. Each call goes over the whole module, so it isn't for each function.
 func FunctionName(data []byte, function uint32) (string, bool, error) {
 	if C.ruthvelka_version()/1000 != libraryVersion/1000 {
 		return "", false, ErrCall

@@ -196,7 +196,8 @@ class Types(_Handle):
 
     def may_be_given(self, exported: int, importer: Types, imported: int) -> bool:
         """Whether the export of this module with that number may be given for an import of another one. Numbers are as `imports_and_exports` has
-        them, and names aren't compared."""
+        them, and names aren't compared. It takes time that grows with the numbers: to link each import of a module takes the square of how many
+        there are."""
         place, number, wanted = self._entered(), _number(exported), _number(imported)
         if importer._owner is not self._owner:
             raise BadCall("the importer is of another validator")

@@ -60,7 +60,7 @@ def bodies(data: Data) -> list[range]:
 
 def function_name(data: Data, function: int) -> Optional[str]:
     """The name that a module gives the function of this index, imported ones counted, if it gives one. It is the module's own word: it may hold any
-    characters, and may be the name of another function."""
+    characters, and may be the name of another function. Each call goes over the whole module, so it isn't for each function."""
     if not 0 <= function < 1 << 32:
         raise BadCall(f"{function} is no index")
     whole, length, room = _bytes(data), ctypes.c_uint64(), 256

@@ -87,7 +87,7 @@ pub fn bodies(bytes: &[u8]) -> Result<Vec<Range<usize>>> {
 }
 
 /// The name that a module gives the function of this index, imported ones counted, if it gives one. It is the module's own word: it may hold any
-/// characters, and may be the name of another function.
+/// characters, and may be the name of another function. Each call goes over the whole module, so it isn't for each function.
 pub fn function_name(bytes: &[u8], function: u32) -> Result<Option<String>> {
     known_library()?;
     let mut name = vec![0u8; 256];

@@ -214,6 +214,7 @@ impl Types {
 
     /// Whether the export of this module with that number may be given for an import of another one, of the same validator. Numbers are as
     /// [`imports_and_exports`](crate::Validator::imports_and_exports) has them, and names aren't compared. It is false where one of the two isn't there.
+    /// It takes time that grows with the numbers: to link each import of a module takes the square of how many there are.
     pub fn may_be_given(&self, export: u32, importer: &Types, import: u32) -> bool {
         let ask = |wanted: *mut sys::Types| {
             // SAFETY: both handles are the library's own, on their thread, and two places.
