@@ -61,9 +61,15 @@ static int link_all(const struct ruthvelka_bytes *modules, const struct side *ex
 int main(int count, char **names) {
     struct ruthvelka_bytes modules[2];
     uint8_t *read[2];
-    if (count != 3) return 2;
+    if (count != 3) {
+        fprintf(stderr, "usage: linker EXPORTER IMPORTER\n");
+        return 2;
+    }
     for (int i = 0; i < 2; i++) {
-        if (!(read[i] = read_file(names[i + 1], &modules[i].length))) return 2;
+        if (!(read[i] = read_file(names[i + 1], &modules[i].length))) {
+            fprintf(stderr, "linker: cannot read %s\n", names[i + 1]);
+            return 2;
+        }
         modules[i].bytes = read[i];
     }
     struct side exports = read_side(modules[0].bytes, modules[0].length, 0);

@@ -51,7 +51,10 @@ static int load(struct ruthvelka_validator *validator, const char *file, struct 
     size_t length;
     struct ruthvelka_outcome outcome = {.size = sizeof outcome};
     uint8_t *bytes = read_file(file, &length);
-    if (!bytes) return 0;
+    if (!bytes) {
+        fprintf(stderr, "runtime: cannot read %s\n", file);
+        return 0;
+    }
     const int is_loaded = ruthvelka_check(bytes, length, RUTHVELKA_STANDARD, NULL, 0, &outcome) == RUTHVELKA_STATUS_VALID
         && ruthvelka_validator_validate(validator, bytes, length, NULL, 0, &outcome, &modules[count].types) == RUTHVELKA_STATUS_VALID
         && read_names(&modules[count]);

@@ -20,7 +20,10 @@ int main(int count, char **words) {
     struct ruthvelka_side_table table = {sizeof table, sizeof(struct ruthvelka_side_entry), 0, 0, 0, 0, 0};
     size_t length = 0;
     uint8_t *bytes = count == 3 ? read_file(words[1], &length) : NULL;
-    if (!bytes) return 2;
+    if (!bytes) {
+        fprintf(stderr, count == 3 ? "side_table: cannot read %s\n" : "usage: side_table MODULE FUNCTION\n", words[1]);
+        return 2;
+    }
     struct ruthvelka_side_entry *entries = read_table(bytes, length, (uint32_t)strtoul(words[2], NULL, 10), &table);
     free(bytes);
     if (!entries) {

@@ -39,7 +39,10 @@ int main(int count, char **words) {
     struct made made = {{sizeof made.totals, sizeof *made.tables, sizeof *made.entries, 0, 0}, NULL, NULL};
     size_t length = 0;
     uint8_t *bytes = count == 2 ? read_file(words[1], &length) : NULL;
-    if (!bytes) return 2;
+    if (!bytes) {
+        fprintf(stderr, count == 2 ? "side_tables: cannot read %s\n" : "usage: side_tables MODULE\n", words[1]);
+        return 2;
+    }
     const uint32_t status = read_tables(bytes, length, &made);
     free(bytes);
     if (status == RUTHVELKA_STATUS_DONE)

@@ -124,6 +124,7 @@ int main(int count, char **files) {
     struct links links = {NULL, NULL, 0, 0, 0, NULL};
     size_t length;
     uint8_t *bytes = count == 2 ? read_file(files[1], &length) : NULL;
+    if (!bytes) fprintf(stderr, count == 2 ? "signatures: cannot read %s\n" : "usage: signatures MODULE\n", files[1]);
     if (!bytes || ruthvelka_validator_new(&validator, RUTHVELKA_STANDARD | RUTHVELKA_CRATE_LIMITS, NULL) != RUTHVELKA_STATUS_DONE) return 2;
     const int is_valid = ruthvelka_validator_validate(&validator, bytes, length, NULL, 0, NULL, &types) == RUTHVELKA_STATUS_VALID;
     if (is_valid && read_links(&types, &links)) print_links(&types, &links);

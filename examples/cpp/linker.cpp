@@ -33,7 +33,10 @@ static Externs read_externs(const std::vector<uint8_t> &bytes) {
 }
 
 int main(int count, char **names) {
-    if (count != 3) return 2;
+    if (count != 3) {
+        std::cerr << "usage: linker EXPORTER IMPORTER\n";
+        return 2;
+    }
     const auto given = read_file(names[1]), wanted = read_file(names[2]);
     const auto exporter = read_externs(given), importer = read_externs(wanted);
     std::vector<ruthvelka_query> queries;

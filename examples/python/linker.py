@@ -14,8 +14,11 @@ def escaped(text):
 
 
 def main():
+    if len(sys.argv) != 3:
+        print("usage: linker.py EXPORTER IMPORTER", file=sys.stderr)
+        sys.exit(2)
     modules = []
-    for name in sys.argv[1:3]:
+    for name in sys.argv[1:]:
         with open(name, "rb") as it:
             modules.append(it.read())
     (_, exports), (imports, _) = map(imports_and_exports, modules)

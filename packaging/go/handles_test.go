@@ -8,6 +8,7 @@ import (
 	"reflect"
 	"regexp"
 	"runtime"
+	"strconv"
 	"strings"
 	"sync"
 	"testing"
@@ -250,7 +251,7 @@ func TestReadme(t *testing.T) {
 	room := t.TempDir()
 	files := map[string]string{
 		"main.go": string(examples[1][1]), "a.wasm": whole, "b.wasm": head + shrinking, "c.wasm": head + functions,
-		"go.mod": "module mine\n\ngo 1.19\n\nrequire ruthvelka.example/ruthvelka v0.0.0\n\nreplace ruthvelka.example/ruthvelka => " + here + "\n",
+		"go.mod": "module mine\n\ngo 1.19\n\nrequire ruthvelka.example/ruthvelka v0.0.0\n\nreplace ruthvelka.example/ruthvelka => " + strconv.Quote(here) + "\n",
 	}
 	for name, data := range files {
 		if err := os.WriteFile(filepath.Join(room, name), []byte(data), 0o600); err != nil {
@@ -260,7 +261,7 @@ func TestReadme(t *testing.T) {
 	command := exec.Command("go", "run", ".", "a.wasm", "b.wasm", "c.wasm")
 	command.Dir = room
 	said, err := command.CombinedOutput()
-	want := "a.wasm: loaded\nb.wasm: refused at 11: size minimum must not be greater than maximum\nc.wasm: loaded\na.wasm and c.wasm share their second type: true\n"
+	want := "a.wasm: loaded\nb.wasm: refused at 11: size minimum must not be greater than maximum\nc.wasm: loaded\na.wasm and c.wasm have 2 pairs of equal types\n"
 	if err != nil || string(said) != want {
 		t.Errorf("%v: %s", err, said)
 	}

@@ -19,6 +19,10 @@ func must[T any](it T, err error) T {
 }
 
 func main() {
+	if len(os.Args) != 3 {
+		fmt.Fprintln(os.Stderr, "usage: linker EXPORTER IMPORTER")
+		os.Exit(2)
+	}
 	modules := [][]byte{must(os.ReadFile(os.Args[1])), must(os.ReadFile(os.Args[2]))}
 	_, exports, err := ruthvelka.Externs(modules[0], ruthvelka.Standard)
 	must(exports, err)

@@ -1,6 +1,8 @@
 //! `linker EXPORTER IMPORTER`: each import of the second module is looked up among the exports of the first by its own name, and linked where what is
 //! found may be given for it.
 
+use std::process::ExitCode;
+
 use ruthvelka::{ask, Answer, Query, Result, Validator, WasmFeatures};
 
 /// A text that may hold a module's own names: `?` in place of all but the printable characters of ASCII, so that no name ends the line.
@@ -29,8 +31,21 @@ fn link(exporter: &[u8], importer: &[u8]) -> Result<()> {
     Ok(())
 }
 
-fn main() {
+fn main() -> ExitCode {
     let names: Vec<String> = std::env::args().skip(1).collect();
-    let read = |name: &String| std::fs::read(name).expect("a file that can be read");
-    link(&read(&names[0]), &read(&names[1])).expect("two valid modules");
+    let [exporter, importer] = &names[..] else {
+        eprintln!("usage: linker EXPORTER IMPORTER");
+        return ExitCode::from(2);
+    };
+    let read = |name: &String| {
+        std::fs::read(name).unwrap_or_else(|_| {
+            eprintln!("linker: cannot read {name}");
+            std::process::exit(2);
+        })
+    };
+    if let Err(why) = link(&read(exporter), &read(importer)) {
+        eprintln!("linker: a module is refused, for byte {}", why.offset());
+        return ExitCode::from(1);
+    }
+    ExitCode::SUCCESS
 }

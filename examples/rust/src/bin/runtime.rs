@@ -40,7 +40,10 @@ fn load(validator: &mut Validator, bytes: &[u8], loaded: &mut Vec<Loaded>) -> Re
 fn main() -> ExitCode {
     let (mut validator, mut loaded, mut status) = (Validator::new(), Vec::new(), ExitCode::SUCCESS);
     for name in std::env::args().skip(1) {
-        let bytes = std::fs::read(&name).expect("a file that can be read");
+        let Ok(bytes) = std::fs::read(&name) else {
+            eprintln!("runtime: cannot read {name}");
+            return ExitCode::from(2);
+        };
         if let Err(why) = load(&mut validator, &bytes, &mut loaded) {
             println!("not loaded, for byte {}", why.offset());
             status = ExitCode::from(1);

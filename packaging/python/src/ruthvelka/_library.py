@@ -59,14 +59,15 @@ class Body(ctypes.Structure):
 
 
 def place() -> str:
-    """The path of the shared object: that of this package, or, in a tree of sources, which has none, the one that RUTHVELKA_LIBRARY names."""
+    """The path of the shared object: that of this package, or, in a tree of sources, which has none, the one that RUTHVELKA_LIBRARY names,
+    itself or by its folder."""
     own = os.path.join(os.path.dirname(os.path.abspath(__file__)), "libruthvelka.so.0")
     if os.path.isfile(own):
         return own
     named = os.environ.get("RUTHVELKA_LIBRARY")
     if not named:
         raise ImportError(f"the package has no shared object: there is no {own}, and RUTHVELKA_LIBRARY names none")
-    return named
+    return os.path.join(named, "libruthvelka.so.0") if os.path.isdir(named) else named
 
 
 def load() -> ctypes.CDLL:
