@@ -134,4 +134,7 @@ def main():
 
 
 if __name__ == "__main__":
+    if sys.argv[1:2] in (["-h"], ["--help"]):
+        print(__doc__.rstrip())
+        sys.exit(0)
     sys.exit(main())
