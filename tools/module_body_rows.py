@@ -550,6 +550,11 @@ def accesses():
     valid('memory.init with its count of data', 'i32.const 0; i32.const 0; i32.const 1; memory.init 0 0; data.drop 0', datacount=1, **passive)
     asked('memory.init without a count of data', 'i32.const 0; i32.const 0; i32.const 1; memory.init 0 0', **passive)
     asked('data.drop without a count of data', 'data.drop 0', **passive)
+    arrays = dict(types=['array mut:i8'], datas=[dict(mode='passive')])
+    for op, front, behind in (('array.new_data', 'i32.const 0; i32.const 1', '; drop'), ('array.init_data', 'ref.null 0; i32.const 0; i32.const 0; i32.const 1', '')):
+        ops = '%s; %s 0 0%s' % (front, op, behind)
+        valid('%s with its count of data' % op, ops, datacount=1, **arrays)
+        asked('%s without a count of data' % op, ops, wanted=refusal(function(ops, **arrays), front, 'data count section required'), **arrays)
     asked('memory.init of a segment that is not counted', 'i32.const 0; i32.const 0; i32.const 1; memory.init 1 0', datacount=1, **passive)
     valid('an offset of 32 bits', 'i32.const 1; i32.load 0:0xffffffff; drop', mems=['1'])
     asked('an offset of 33 bits', 'i32.const 1; i32.load 0:0x100000000; drop', mems=['1'], told='')
