@@ -1,8 +1,8 @@
 #!/usr/bin/env python3
 """check_crates.py: checks the graph of crates.txt, and the sizes of crates, in a second. bin/test calls it first.
 
-`rt` follows each walk down from a crate through the graph before it checks that crate, so each crate may have at most 3,800 walks,
-`wasm_validator_tables` and `ruthvelka_c` 4,700 and 8,400, and `test_all`, which runs the rows and the examples, 8,500. A crate names the layers it uses and passes on what is below
+`rt` follows each walk down from a crate through the graph before it checks that crate, so each crate may have at most 3,900 walks,
+`wasm_validator_tables` and `ruthvelka_c` 4,900 and 8,800, and `test_all`, which runs the rows and the examples, 8,900. A crate names the layers it uses and passes on what is below
 them, by `pub use` lines of its specs/Lib.antt and proofs/Lib.antt and by `pub mod` blocks at the end of its src/lib.rt; each such line must
 be used by a crate above, or be in FOR_USERS. A crate of laws (wasm_laws_..) passes on no code."""
 import os
@@ -10,10 +10,10 @@ import re
 import sys
 
 ROOT = os.path.dirname(os.path.dirname(os.path.abspath(__file__)))
-MOST_WALKS, MOST_CRATES, MOST_LINES, MOST_FUNCTIONS = 3_800, 77, 1_500, 110
-ALL, MOST_WALKS_OF_ALL = "test_all", 8_500
+MOST_WALKS, MOST_CRATES, MOST_LINES, MOST_FUNCTIONS = 3_900, 77, 1_500, 110
+ALL, MOST_WALKS_OF_ALL = "test_all", 8_900
 # The side table of a function stands over the validator and over side tables, and the C library over it and over handles.
-MORE_WALKS = {"wasm_validator_tables": 4_700, "ruthvelka_c": 8_400}
+MORE_WALKS = {"wasm_validator_tables": 4_900, "ruthvelka_c": 8_800}
 # What is passed on for users alone: the condition of `FuncValidator::op`, which their contracts name.
 FOR_USERS = {("wasm_validator_func", "specs/StackSteps")}
 LAYERS = ("wasm_spec", "wasm_readers", "wasm_operators", "wasm_typing", "wasm_items", "wasm_parser", "wasm_validat", "wasm_check", "wasm_laws_", "rows_", "test_all", "examples", "ruthvelka_c")

@@ -37,7 +37,7 @@ pub mod typing_numbers {
 pub mod typing_control {
     pub use wasm_typing_control::typing_stacks::{Block, Stacks};
     pub use wasm_typing_control::validator_resources::WasmModuleResources;
-    pub use wasm_typing_control::{frame_at, peek};
+    pub use wasm_typing_control::{as_fast, frame_at, peek};
 }
 
 /// Passed on from `wasm_operators_plain`.
@@ -46,17 +46,4 @@ pub mod operators_plain {
     pub use wasm_operators_plain::{
         NumberType, access_from_opcode, numeric_from_opcode, signature_in_place,
     };
-}
-
-/// Passed on from `wasm_operators`.
-pub mod operators {
-    pub use wasm_operators::{
-        BulkMemoryOperator, ControlOperator, Operator, ParametricOperator, ReferenceOperator,
-        SaturatingOperator, TableOperator,
-    };
-}
-
-/// Passed on from `wasm_readers_types`.
-pub mod readers_types {
-    pub use wasm_readers_types::{AbstractHeapType, HeapType};
 }

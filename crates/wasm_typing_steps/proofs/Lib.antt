@@ -1,2 +1,1 @@
 pub mod FusedInstructions
-pub mod Cited

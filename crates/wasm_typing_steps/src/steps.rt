@@ -7,9 +7,9 @@ ghost use Rattle.wasm_typing_fast.specs.WasmTypingControl.WasmTypingChecks.WasmT
 ghost use Rattle.wasm_typing_steps.specs.InstructionSteps.{Fuses, FusesAs, step_at};
 ghost use Rattle.wasm_typing_steps.specs.ToldSteps.{IsPlain, OnLeft, OnTaken, Tells, told_at};
 
-use crate::seldom::{next_bits_32, next_bits_64};
 use crate::told::{Told, leave, tell};
 use std::alloc::Allocator;
+use wasm_operators_seldom::{next_bits_32, next_bits_64};
 use wasm_typing_fast::operators_plain::{
     BinaryReader, NumberType, access_from_opcode, numeric_from_opcode, signature_in_place,
 };

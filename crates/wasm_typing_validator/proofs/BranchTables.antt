@@ -1,25 +1,25 @@
 -- Branch tables, each label of which is that of a block without types.
 use Rattle.std.proofs.Common.{◌≡◌, ◌<◌, ◌-◌, ℕ, zero, suc, true, List, [], ◌∷◌, refl, sym, ◌∙◌, ap, subst, arith}
 use Rattle.std.specs.Prelude.{Some}
-use Rattle.wasm_typing_blocks.specs.WasmTypingChecks.WasmSpecRules.WasmSpec.Syntax.{Val, i32}
+use Rattle.wasm_typing_families.specs.WasmTypingBlocks.WasmTypingChecks.WasmSpecRules.WasmSpec.Syntax.{Val, i32}
 use Rattle.wasm_readers.specs.WrittenIndices.{written}
 use Rattle.wasm_operators.specs.WasmOperatorsPlain.WasmSpec.Values.{u32_at, many_at}
 use Rattle.wasm_operators.specs.Control.{control_from, br_table}
 use Rattle.wasm_operators.specs.Instructions.{Instruction, control, plain_from, instruction_at}
 use Rattle.wasm_operators.specs.Maps.{map_instruction}
-use Rattle.wasm_typing_blocks.specs.WasmTypingChecks.WasmSpecRules.Contexts.{Context}
+use Rattle.wasm_typing_families.specs.WasmTypingBlocks.WasmTypingChecks.WasmSpecRules.Contexts.{Context}
 use Rattle.wasm_readers_types.specs.WasmReadersValues.declared.indices.UnpackedIndex.{UnpackedIndex}
-use Rattle.wasm_typing_blocks.specs.WasmTypingChecks.WasmSpecSteps.Actions.{label, take, branch_to_one_of}
-use Rattle.wasm_typing_blocks.specs.WasmTypingChecks.WasmSpecSteps.Machine.{State, become_unreachable, pop_val}
-use Rattle.wasm_typing_blocks.specs.WasmTypingChecks.WasmSpecSteps.Shapes.{one}
-use Rattle.wasm_typing_blocks.specs.WasmTypingChecks.WasmSpecSteps.Steps.{is_open, step_in}
-use Rattle.wasm_typing_blocks.specs.WasmTypingChecks.WasmValidatorResources.Answers.{world, written_index}
-use Rattle.wasm_typing_blocks.specs.WasmTypingChecks.WasmTypingStacks.BodyStacks.{state_of, around, below}
-use Rattle.wasm_typing_blocks.specs.WasmTypingChecks.WasmTypingStacks.declared.stacks.Stacks.{Stacks}
-use Rattle.wasm_typing_blocks.specs.WasmTypingChecks.Steps.{acted, typed}
-use Rattle.wasm_typing_blocks.specs.BranchTargets.{fits, all_fit}
-use Rattle.wasm_typing_blocks.proofs.TableBranches.{fits_there, table_is}
-use Rattle.wasm_typing_steps.specs.InstructionSteps.{step_at}
+use Rattle.wasm_typing_families.specs.WasmTypingBlocks.WasmTypingChecks.WasmSpecSteps.Actions.{label, take, branch_to_one_of}
+use Rattle.wasm_typing_families.specs.WasmTypingBlocks.WasmTypingChecks.WasmSpecSteps.Machine.{State, become_unreachable, pop_val}
+use Rattle.wasm_typing_families.specs.WasmTypingBlocks.WasmTypingChecks.WasmSpecSteps.Shapes.{one}
+use Rattle.wasm_typing_families.specs.WasmTypingBlocks.WasmTypingChecks.WasmSpecSteps.Steps.{is_open, step_in}
+use Rattle.wasm_typing_families.specs.WasmTypingBlocks.WasmTypingChecks.WasmValidatorResources.Answers.{world, written_index}
+use Rattle.wasm_typing_families.specs.WasmTypingBlocks.WasmTypingChecks.WasmTypingStacks.BodyStacks.{state_of, around, below}
+use Rattle.wasm_typing_families.specs.WasmTypingBlocks.WasmTypingChecks.WasmTypingStacks.declared.stacks.Stacks.{Stacks}
+use Rattle.wasm_typing_families.specs.WasmTypingBlocks.WasmTypingChecks.Steps.{acted, typed}
+use Rattle.wasm_typing_families.specs.WasmTypingBlocks.BranchTargets.{fits, all_fit}
+use Rattle.wasm_typing_families.proofs.WasmTypingBlocks.TableBranches.{fits_there, table_is}
+use Rattle.wasm_typing_families.specs.WasmTypingSteps.InstructionSteps.{step_at}
 use Rattle.wasm_typing_validator.specs.Labels.{Lists}
 
 module _ {A : Type 0} (v : Stacks A) (C : Context UnpackedIndex) where

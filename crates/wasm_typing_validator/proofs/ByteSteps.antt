@@ -1,7 +1,7 @@
 -- One step from bytes is reading, and the step of what was read.
 use Rattle.std.proofs.Common.{◌≡◌, ◌∙◌, refl, sym, ap, subst, ℕ, List, Option, Some, None, Result, Ok, Err}
-use Rattle.wasm_typing_blocks.specs.WasmTypingChecks.WasmSpecRules.Attempts.{◌>>=◌}
-use Rattle.wasm_typing_blocks.specs.WasmTypingChecks.WasmSpecRules.Contexts.{Context}
+use Rattle.wasm_typing_families.specs.WasmTypingBlocks.WasmTypingChecks.WasmSpecRules.Attempts.{◌>>=◌}
+use Rattle.wasm_typing_families.specs.WasmTypingBlocks.WasmTypingChecks.WasmSpecRules.Contexts.{Context}
 use Rattle.wasm_readers.specs.WasmReadersBytes.Reader.{rest}
 use Rattle.wasm_readers.specs.WasmReadersBytes.declared.binary_reader.BinaryReader.{BinaryReader}
 use Rattle.wasm_readers.specs.WrittenIndices.{written}
@@ -11,18 +11,18 @@ use Rattle.wasm_readers.specs.WasmReadersErrors.declared.error.Error.TheVariants
 use Rattle.wasm_readers_types.specs.WasmReadersValues.declared.indices.UnpackedIndex.{UnpackedIndex}
 use Rattle.wasm_operators.specs.Instructions.{Instruction, instruction_at}
 use Rattle.wasm_operators.specs.Maps.{map_instruction}
-use Rattle.wasm_typing_blocks.specs.WasmTypingChecks.WasmSpecSteps.ServedInstructions.{served}
-use Rattle.wasm_typing_blocks.specs.WasmTypingChecks.WasmSpecSteps.Machine.{State}
-use Rattle.wasm_typing_blocks.specs.WasmTypingChecks.WasmSpecSteps.Steps.{step_in}
-use Rattle.wasm_typing_blocks.specs.WasmTypingChecks.WasmValidatorResources.Answers.{world, written_index}
-use Rattle.wasm_typing_blocks.specs.WasmTypingChecks.WasmTypingStacks.BodyStacks.{state_of, around, Kept}
-use Rattle.wasm_typing_blocks.specs.WasmTypingChecks.WasmTypingStacks.declared.stacks.Stacks.{Stacks}
-use Rattle.wasm_typing_blocks.specs.WasmTypingChecks.Steps.{Took}
-use Rattle.wasm_typing_blocks.specs.WasmTypingChecks.OperatorRefusals.{TellsError}
-use Rattle.wasm_typing_blocks.specs.WasmTypingChecks.declared.faults.OperatorError.{OperatorError}
-use Rattle.wasm_typing_blocks.specs.WasmTypingChecks.declared.faults.OperatorError.TheVariants as operator
-use Rattle.wasm_typing_blocks.specs.WasmTypingChecks.WasmSpecRules.FeatureFlags.{features_of}
-use Rattle.wasm_typing_steps.specs.InstructionSteps.{step_read, step_at}
+use Rattle.wasm_typing_families.specs.WasmTypingBlocks.WasmTypingChecks.WasmSpecSteps.ServedInstructions.{served}
+use Rattle.wasm_typing_families.specs.WasmTypingBlocks.WasmTypingChecks.WasmSpecSteps.Machine.{State}
+use Rattle.wasm_typing_families.specs.WasmTypingBlocks.WasmTypingChecks.WasmSpecSteps.Steps.{step_in}
+use Rattle.wasm_typing_families.specs.WasmTypingBlocks.WasmTypingChecks.WasmValidatorResources.Answers.{world, written_index}
+use Rattle.wasm_typing_families.specs.WasmTypingBlocks.WasmTypingChecks.WasmTypingStacks.BodyStacks.{state_of, around, Kept}
+use Rattle.wasm_typing_families.specs.WasmTypingBlocks.WasmTypingChecks.WasmTypingStacks.declared.stacks.Stacks.{Stacks}
+use Rattle.wasm_typing_families.specs.WasmTypingBlocks.WasmTypingChecks.Steps.{Took}
+use Rattle.wasm_typing_families.specs.WasmTypingBlocks.WasmTypingChecks.OperatorRefusals.{TellsError}
+use Rattle.wasm_typing_families.specs.WasmTypingBlocks.WasmTypingChecks.declared.faults.OperatorError.{OperatorError}
+use Rattle.wasm_typing_families.specs.WasmTypingBlocks.WasmTypingChecks.declared.faults.OperatorError.TheVariants as operator
+use Rattle.wasm_typing_families.specs.WasmTypingBlocks.WasmTypingChecks.WasmSpecRules.FeatureFlags.{features_of}
+use Rattle.wasm_typing_families.specs.WasmTypingSteps.InstructionSteps.{step_read, step_at}
 use Rattle.wasm_typing_arity.proofs.UnservedOperators.{takes_none}
 use Rattle.wasm_typing_validator.specs.StackSteps.{Steps}
 use Rattle.wasm_typing_validator.specs.StepsFromBytes.{ReadsStep, stepped}

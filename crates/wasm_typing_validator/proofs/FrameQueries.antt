@@ -6,11 +6,11 @@ use Rattle.wasm_readers_types.specs.WasmReadersValues.declared.indices.UnpackedI
 use Rattle.wasm_operators.specs.Control.{Block}
 use Rattle.wasm_operators.specs.declared.control.FrameKind.{FrameKind}
 use Rattle.wasm_operators.specs.declared.control.FrameKind.TheVariants as frame
-use Rattle.wasm_typing_blocks.specs.WasmTypingChecks.WasmSpecSteps.Machine as machine
+use Rattle.wasm_typing_families.specs.WasmTypingBlocks.WasmTypingChecks.WasmSpecSteps.Machine as machine
 use Rattle.wasm_typing_arity.specs.ArityQueries.{kind_of}
-use Rattle.wasm_typing_blocks.specs.WasmTypingChecks.WasmTypingStacks.SeenBlocks as stacks
-use Rattle.wasm_typing_blocks.specs.WasmTypingChecks.WasmTypingStacks.SeenBlocks.{frame_of, frames_seen}
-use Rattle.wasm_typing_blocks.specs.WasmTypingChecks.WasmTypingStacks.declared.stacks.Frame.{Frame}
+use Rattle.wasm_typing_families.specs.WasmTypingBlocks.WasmTypingChecks.WasmTypingStacks.SeenBlocks as stacks
+use Rattle.wasm_typing_families.specs.WasmTypingBlocks.WasmTypingChecks.WasmTypingStacks.SeenBlocks.{frame_of, frames_seen}
+use Rattle.wasm_typing_families.specs.WasmTypingBlocks.WasmTypingChecks.WasmTypingStacks.declared.stacks.Frame.{Frame}
 use Rattle.wasm_typing_validator.specs.ModuleAnswers.{label_seen}
 
 -- kinds of frames are the same to both layers

@@ -1,16 +1,16 @@
 -- What labels count.
 use Rattle.std.proofs.Common.{◌≡◌, ℕ, List, length, Option, Some, None, slice_get, refl, sym}
 use Rattle.std.specs.Option.{option_map}
-use Rattle.wasm_typing_blocks.specs.WasmTypingChecks.WasmSpecRules.WasmSpec.Syntax.{Val}
-use Rattle.wasm_typing_blocks.specs.WasmTypingChecks.WasmSpecRules.Attempts.{◌>>=◌}
-use Rattle.wasm_typing_blocks.specs.WasmTypingChecks.WasmSpecRules.Contexts.{Context}
-use Rattle.wasm_typing_blocks.specs.WasmTypingChecks.WasmSpecRules.Signatures.{Signature}
+use Rattle.wasm_typing_families.specs.WasmTypingBlocks.WasmTypingChecks.WasmSpecRules.WasmSpec.Syntax.{Val}
+use Rattle.wasm_typing_families.specs.WasmTypingBlocks.WasmTypingChecks.WasmSpecRules.Attempts.{◌>>=◌}
+use Rattle.wasm_typing_families.specs.WasmTypingBlocks.WasmTypingChecks.WasmSpecRules.Contexts.{Context}
+use Rattle.wasm_typing_families.specs.WasmTypingBlocks.WasmTypingChecks.WasmSpecRules.Signatures.{Signature}
 use Rattle.wasm_readers_types.specs.WasmReadersValues.declared.indices.UnpackedIndex.{UnpackedIndex}
 use Rattle.wasm_operators.specs.Control.{Block, empty_block, value_block, func_block}
-use Rattle.wasm_typing_blocks.specs.WasmTypingChecks.WasmSpecSteps.Machine as machine
-use Rattle.wasm_typing_blocks.specs.WasmTypingChecks.WasmSpecSteps.Machine.{Kind, block_kind, loop_kind, if_kind, else_kind, try_table_kind, legacy_try_kind, legacy_catch_kind, legacy_catch_all_kind}
-use Rattle.wasm_typing_blocks.specs.WasmTypingChecks.WasmSpecSteps.Meanings.{label_by}
-use Rattle.wasm_typing_steps.specs.WasmTypingControl.Blocks.{function_in, signature_in}
+use Rattle.wasm_typing_families.specs.WasmTypingBlocks.WasmTypingChecks.WasmSpecSteps.Machine as machine
+use Rattle.wasm_typing_families.specs.WasmTypingBlocks.WasmTypingChecks.WasmSpecSteps.Machine.{Kind, block_kind, loop_kind, if_kind, else_kind, try_table_kind, legacy_try_kind, legacy_catch_kind, legacy_catch_all_kind}
+use Rattle.wasm_typing_families.specs.WasmTypingBlocks.WasmTypingChecks.WasmSpecSteps.Meanings.{label_by}
+use Rattle.wasm_typing_families.specs.WasmTypingSteps.WasmTypingControl.Blocks.{function_in, signature_in}
 use Rattle.wasm_typing_validator.specs.QueryResults.{height_over}
 
 -- this number of operands over that many

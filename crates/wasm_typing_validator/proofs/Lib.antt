@@ -1,5 +1,4 @@
 pub use Rattle.wasm_typing_arity.proofs as WasmTypingArity
-pub mod FamilySteps
 pub mod LocalDefinitions
 pub mod BodyStarts
 pub mod LocalDeclarations

@@ -1,28 +1,21 @@
 -- Operators that compilers write less often, read and then stepped.
 use Rattle.std.proofs.Common.{◌≡◌, ◌∙◌, sym, ap, ℕ, List, Option, Err}
-use Rattle.wasm_typing_blocks.specs.WasmTypingChecks.WasmSpecRules.Contexts.{Context}
+use Rattle.wasm_typing_families.specs.WasmTypingBlocks.WasmTypingChecks.WasmSpecRules.Contexts.{Context}
 use Rattle.wasm_readers.specs.WasmReadersBytes.Reader.{rest}
 use Rattle.wasm_readers.specs.WasmReadersBytes.declared.binary_reader.BinaryReader.{BinaryReader}
 use Rattle.wasm_readers_types.specs.WasmReadersValues.declared.indices.UnpackedIndex.{UnpackedIndex}
 use Rattle.wasm_operators.specs.Instructions.{Instruction}
-use Rattle.wasm_typing_blocks.specs.WasmTypingChecks.WasmSpecSteps.Machine.{State}
-use Rattle.wasm_typing_blocks.specs.WasmTypingChecks.WasmValidatorResources.Answers.{world}
-use Rattle.wasm_typing_blocks.specs.WasmTypingChecks.WasmTypingStacks.BodyStacks.{state_of, around, Kept}
-use Rattle.wasm_typing_blocks.specs.WasmTypingChecks.WasmTypingStacks.declared.stacks.Stacks.{Stacks}
-use Rattle.wasm_typing_blocks.specs.WasmTypingChecks.Steps.{Took}
-use Rattle.wasm_typing_blocks.specs.WasmTypingChecks.declared.faults.OperatorError.{OperatorError}
-use Rattle.wasm_typing_blocks.specs.WasmTypingChecks.declared.faults.OperatorError.TheVariants.{Refused, OutOfMemory}
-use Rattle.wasm_typing_steps.specs.InstructionSteps.{step_at}
+use Rattle.wasm_typing_families.specs.WasmTypingBlocks.WasmTypingChecks.WasmSpecSteps.Machine.{State}
+use Rattle.wasm_typing_families.specs.WasmTypingBlocks.WasmTypingChecks.WasmValidatorResources.Answers.{world}
+use Rattle.wasm_typing_families.specs.WasmTypingBlocks.WasmTypingChecks.WasmTypingStacks.BodyStacks.{state_of, around, Kept}
+use Rattle.wasm_typing_families.specs.WasmTypingBlocks.WasmTypingChecks.WasmTypingStacks.declared.stacks.Stacks.{Stacks}
+use Rattle.wasm_typing_families.specs.WasmTypingBlocks.WasmTypingChecks.Steps.{Took}
+use Rattle.wasm_typing_families.specs.WasmTypingBlocks.WasmTypingChecks.declared.faults.OperatorError.{OperatorError}
+use Rattle.wasm_typing_families.specs.WasmTypingBlocks.WasmTypingChecks.declared.faults.OperatorError.TheVariants.{Refused, OutOfMemory}
+use Rattle.wasm_typing_families.specs.WasmTypingSteps.InstructionSteps.{step_at}
 use Rattle.wasm_typing_validator.specs.StackSteps.{Steps}
 use Rattle.wasm_typing_validator.specs.StepsFromBytes.{stepped}
 use Rattle.wasm_typing_validator.proofs.CodeSurroundings.{kept_around, kept_on}
-
--- a step that isn't taken changes nothing
-module _ {A : Type 0} (C : Context UnpackedIndex) (i : Instruction UnpackedIndex) (v w : Stacks A) where
-  pub not_stepped : (e : OperatorError) → Steps (Err e) C i v w → state_of w ≡ state_of v
-  unfolding Took
-  not_stepped (Refused f) p = p.1
-  not_stepped OutOfMemory p = p
 
 -- from where nothing changed
 pub still_stepped : {A : Type 0} (C : Context UnpackedIndex) (v w : Stacks A) (r s : BinaryReader) (o : Option (State UnpackedIndex × List ℕ)) → Kept v w → state_of w ≡ state_of v → s ≡ r → stepped C w s ≡ o → stepped C v r ≡ o

@@ -10,12 +10,12 @@ use Rattle.wasm_readers.specs.WasmReadersErrors.declared.error.Fault.TheVariants
 use Rattle.wasm_readers.specs.WasmReadersErrors.declared.error.Refusal.{Refusal}
 use Rattle.wasm_readers.specs.WasmReadersErrors.WasmReadersFeatures.declared.operator_rules.OperatorRule.TheVariants as rule
 use Rattle.wasm_readers_types.specs.WasmReadersValues.declared.indices.UnpackedIndex.{UnpackedIndex}
-use Rattle.wasm_typing_blocks.specs.WasmTypingChecks.WasmSpecRules.WasmSpec.Features.{Features}
-use Rattle.wasm_typing_blocks.specs.WasmTypingChecks.WasmSpecRules.Attempts.{guard}
-use Rattle.wasm_typing_blocks.specs.WasmTypingChecks.WasmSpecSteps.ServedInstructions.{serves, served}
-use Rattle.wasm_typing_blocks.specs.WasmTypingChecks.OperatorRefusals.{is_operand, TellsRule, TellsError}
-use Rattle.wasm_typing_blocks.specs.WasmTypingChecks.declared.faults.OperatorError.{OperatorError}
-use Rattle.wasm_typing_blocks.specs.WasmTypingChecks.declared.faults.OperatorError.TheVariants.{Refused, OutOfMemory}
+use Rattle.wasm_typing_families.specs.WasmTypingBlocks.WasmTypingChecks.WasmSpecRules.WasmSpec.Features.{Features}
+use Rattle.wasm_typing_families.specs.WasmTypingBlocks.WasmTypingChecks.WasmSpecRules.Attempts.{guard}
+use Rattle.wasm_typing_families.specs.WasmTypingBlocks.WasmTypingChecks.WasmSpecSteps.ServedInstructions.{serves, served}
+use Rattle.wasm_typing_families.specs.WasmTypingBlocks.WasmTypingChecks.OperatorRefusals.{is_operand, TellsRule, TellsError}
+use Rattle.wasm_typing_families.specs.WasmTypingBlocks.WasmTypingChecks.declared.faults.OperatorError.{OperatorError}
+use Rattle.wasm_typing_families.specs.WasmTypingBlocks.WasmTypingChecks.declared.faults.OperatorError.TheVariants.{Refused, OutOfMemory}
 use Rattle.wasm_typing_validator.specs.ValidatorFailures.{IsFailure, failure_at, EndsReading}
 
 refusal_is : (r : Refusal) (x : Fault) (offset : ℕ) → r.fault ≡ x → r.offset ≡ offset → r.missing ≡ None → r ≡ plain x offset

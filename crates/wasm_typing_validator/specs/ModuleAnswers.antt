@@ -2,16 +2,16 @@
 -- Core Specification 3.0, Validation, Conventions (Contexts), and Appendix, Validation Algorithm (Data Structures).
 use Rattle.std.specs.Prelude.{◌-◌, ◌^◌, ℕ, List, map, take, Option, slice_get}
 use Rattle.std.specs.Option.{option_map, option_and_then}
-use Rattle.wasm_typing_blocks.specs.WasmTypingChecks.WasmSpecRules.Contexts.{Context}
+use Rattle.wasm_typing_families.specs.WasmTypingBlocks.WasmTypingChecks.WasmSpecRules.Contexts.{Context}
 use Rattle.wasm_readers_types.specs.WasmReadersValues.declared.indices.UnpackedIndex.{UnpackedIndex}
 use Rattle.wasm_operators.specs.Control.{Block}
-use Rattle.wasm_typing_blocks.specs.WasmTypingChecks.WasmSpecSteps.Machine.{Kind, Frame}
+use Rattle.wasm_typing_families.specs.WasmTypingBlocks.WasmTypingChecks.WasmSpecSteps.Machine.{Kind, Frame}
 use Rattle.wasm_typing_arity.specs.Arities.{in_u32}
 use Rattle.wasm_typing_arity.specs.ArityQueries.{Asked}
 use Rattle.wasm_typing_arity.specs.Lengths.{lengths_of}
-use Rattle.wasm_typing_blocks.specs.WasmTypingChecks.WasmValidatorResources.Answers.{sub_in, sub_of_id, tag_in}
-use Rattle.wasm_typing_blocks.specs.WasmTypingChecks.WasmTypingStacks.BodyStacks.{state_of}
-use Rattle.wasm_typing_blocks.specs.WasmTypingChecks.WasmTypingStacks.declared.stacks.Stacks.{Stacks}
+use Rattle.wasm_typing_families.specs.WasmTypingBlocks.WasmTypingChecks.WasmValidatorResources.Answers.{sub_in, sub_of_id, tag_in}
+use Rattle.wasm_typing_families.specs.WasmTypingBlocks.WasmTypingChecks.WasmTypingStacks.BodyStacks.{state_of}
+use Rattle.wasm_typing_families.specs.WasmTypingBlocks.WasmTypingChecks.WasmTypingStacks.declared.stacks.Stacks.{Stacks}
 
 -- the block type and the kind of a frame
 abbrev pub label_seen : Frame UnpackedIndex → Block UnpackedIndex × Kind

@@ -1,13 +1,13 @@
 -- One operator at an offset of the input, with what is told of its refusal.
 -- Core Specification 3.0, Validation, Instructions.
 use Rattle.std.specs.Prelude.{ℕ, Result, Ok, Err, ⊤}
-use Rattle.wasm_typing_blocks.specs.WasmTypingChecks.WasmSpecRules.Contexts.{Context}
+use Rattle.wasm_typing_families.specs.WasmTypingBlocks.WasmTypingChecks.WasmSpecRules.Contexts.{Context}
 use Rattle.wasm_readers_types.specs.WasmReadersValues.declared.indices.UnpackedIndex.{UnpackedIndex}
 use Rattle.wasm_readers.specs.WasmReadersErrors.declared.error.Error.{Error}
 use Rattle.wasm_operators.specs.Instructions.{Instruction}
-use Rattle.wasm_typing_blocks.specs.WasmTypingChecks.WasmTypingStacks.declared.stacks.Stacks.{Stacks}
-use Rattle.wasm_typing_blocks.specs.WasmTypingChecks.OperatorRefusals.{TellsError}
-use Rattle.wasm_typing_blocks.specs.WasmTypingChecks.declared.faults.OperatorError.{OperatorError}
+use Rattle.wasm_typing_families.specs.WasmTypingBlocks.WasmTypingChecks.WasmTypingStacks.declared.stacks.Stacks.{Stacks}
+use Rattle.wasm_typing_families.specs.WasmTypingBlocks.WasmTypingChecks.OperatorRefusals.{TellsError}
+use Rattle.wasm_typing_families.specs.WasmTypingBlocks.WasmTypingChecks.declared.faults.OperatorError.{OperatorError}
 use Rattle.wasm_typing_validator.specs.StackSteps.{Steps}
 
 -- what a call says that tells its errors at an offset, by what it says without

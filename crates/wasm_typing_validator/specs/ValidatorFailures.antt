@@ -7,8 +7,8 @@ use Rattle.wasm_readers.specs.WasmReadersErrors.declared.error.Error.TheVariants
 use Rattle.wasm_readers.specs.WasmReadersErrors.declared.error.Fault.TheVariants as fault
 use Rattle.wasm_readers.specs.WasmReadersErrors.WasmReadersFeatures.declared.operator_rules.OperatorRule.TheVariants as rule
 use Rattle.wasm_readers_types.specs.WasmReadersValues.declared.indices.UnpackedIndex.{UnpackedIndex}
-use Rattle.wasm_typing_blocks.specs.WasmTypingChecks.declared.faults.OperatorError.{OperatorError}
-use Rattle.wasm_typing_blocks.specs.WasmTypingChecks.declared.faults.OperatorError.TheVariants.{Refused}
+use Rattle.wasm_typing_families.specs.WasmTypingBlocks.WasmTypingChecks.declared.faults.OperatorError.{OperatorError}
+use Rattle.wasm_typing_families.specs.WasmTypingBlocks.WasmTypingChecks.declared.faults.OperatorError.TheVariants.{Refused}
 
 -- the refusal that the validator failed, before it is told where
 abbrev pub IsFailure : Result (Unit {0}) OperatorError → Type 0

@@ -14,8 +14,8 @@ use crate::{FrameStack, ModuleArity};
 use std::alloc::Allocator;
 use wasm_operators::{BlockType, FrameKind};
 use wasm_readers_types::{CompositeInnerType, ContType, FuncType, RefType, SubType, UnpackedIndex};
-use wasm_typing_blocks::validator_resources::WasmModuleResources;
-use wasm_typing_steps::typing_control::frame_at;
+use wasm_typing_families::typing_blocks::validator_resources::WasmModuleResources;
+use wasm_typing_families::typing_steps::frame_at;
 
 /// How many parameters and results the type of this tag has, if there is one and both numbers have
 /// 32 bits.

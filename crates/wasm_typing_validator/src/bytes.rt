@@ -4,91 +4,26 @@ ghost use Rattle.std.specs.Prelude.{◌≡◌, ◌≤◌, ◌<◌, ◌||◌, Som
 ghost use Rattle.wasm_readers.specs.WrittenIndices.{written};
 ghost use Rattle.wasm_readers.specs.WasmReadersBytes.Reader.{SameInput, position_in, place_of_next, rest};
 ghost use Rattle.wasm_operators.specs.Instructions.{instruction_at};
-ghost use Rattle.wasm_typing_blocks.specs.WasmTypingChecks.WasmSpecRules.FeatureFlags.{features_of};
-ghost use Rattle.wasm_typing_blocks.specs.WasmTypingChecks.WasmSpecSteps.ServedInstructions.{served};
-ghost use Rattle.wasm_typing_blocks.specs.WasmTypingChecks.WasmTypingStacks.BodyStacks.{state_of, Kept};
-ghost use Rattle.wasm_typing_steps.specs.ToldSteps.{OnLeft, OnTaken, told_at};
+ghost use Rattle.wasm_typing_families.specs.WasmTypingBlocks.WasmTypingChecks.WasmSpecRules.FeatureFlags.{features_of};
+ghost use Rattle.wasm_typing_families.specs.WasmTypingBlocks.WasmTypingChecks.WasmSpecSteps.ServedInstructions.{served};
+ghost use Rattle.wasm_typing_families.specs.WasmTypingBlocks.WasmTypingChecks.WasmTypingStacks.BodyStacks.{state_of, Kept};
+ghost use Rattle.wasm_typing_families.specs.WasmTypingSteps.ToldSteps.{OnLeft, OnTaken, told_at};
 ghost use Rattle.wasm_typing_validator.specs.BodyTyping.{typed_state};
 ghost use Rattle.wasm_typing_validator.specs.TypedInstructions.{StandsIn};
 ghost use Rattle.wasm_typing_validator.specs.StepsFromBytes.{ReadsStep, stepped};
 ghost use Rattle.wasm_typing_validator.specs.ValidatorFailures.{EndsReading};
 
 use crate::labels::table_step;
-use crate::steps::step;
 use crate::validator::OperatorValidator;
 use std::alloc::Allocator;
 use wasm_readers::BinaryReader;
 use wasm_readers::readers_errors::Error;
 use wasm_typing_arity::read_served;
-use wasm_typing_blocks::typing_checks::OperatorError;
-use wasm_typing_blocks::typing_stacks::Stacks;
-use wasm_typing_blocks::validator_resources::WasmModuleResources;
-use wasm_typing_steps::{NotTaken, Told, is_seldom, next_seldom, told_step};
-
-/// Reads the next operator and takes its step, where it is one that compilers write less often. Where
-/// that isn't done the reader may stand further on.
-#[cold]
-#[inline(never)]
-fn step_read<'a, A: Allocator, T: WasmModuleResources>(
-    reader: &mut BinaryReader<'a>,
-    stacks: &mut Stacks<A>,
-    resources: &T,
-) -> Result<(), NotTaken>
-    ensures input { SameInput reader.old reader.new }
-    ensures further { OnOk result (position_in reader.old < position_in reader.new) }
-    ensures took { OnOk result (stepped (T.context resources.now) stacks.old reader.old
-        ≡ Some (state_of stacks.new, rest reader.new)) }
-    ensures left { OnErr result (state_of stacks.new ≡ state_of stacks.old) }
-    ensures same { Kept stacks.old stacks.new }
-{
-    if !stacks.is_open {
-        return Err(NotTaken::Left);
-    }
-    match next_seldom(reader) {
-        Some(op) => match step(stacks, resources, &op) {
-            Ok(()) => Ok(()),
-            Err(OperatorError::Refused(_)) => Err(NotTaken::Left),
-            Err(OperatorError::OutOfMemory) => Err(NotTaken::OutOfMemory),
-        },
-        None => Err(NotTaken::Left),
-    }
-}
-
-/// Reads the next operator and takes its step, where it is one that compilers write less often.
-/// Where that isn't done all stays.
-#[inline(always)]
-fn seldom_step<'a, A: Allocator, T: WasmModuleResources>(
-    reader: &mut BinaryReader<'a>,
-    stacks: &mut Stacks<A>,
-    resources: &T,
-) -> Result<(), NotTaken>
-    ensures input { SameInput reader.old reader.new }
-    ensures further { OnOk result (position_in reader.old < position_in reader.new) }
-    ensures took { OnOk result (stepped (T.context resources.now) stacks.old reader.old
-        ≡ Some (state_of stacks.new, rest reader.new)) }
-    ensures unread { OnErr result (reader.new ≡ reader.old) }
-    ensures left { OnErr result (state_of stacks.new ≡ state_of stacks.old) }
-    ensures same { Kept stacks.old stacks.new }
-{
-    // What is lent can't be kept in registers, so that each look has a reader of its own.
-    let mut front = *reader;
-    match front.next_u8() {
-        Some(opcode) => {
-            if !is_seldom(opcode) {
-                return Err(NotTaken::Left);
-            }
-        }
-        None => return Err(NotTaken::Left),
-    }
-    let mut ahead = *reader;
-    match step_read(&mut ahead, stacks, resources) {
-        Ok(()) => {
-            reader.go_on_from(&ahead);
-            Ok(())
-        }
-        Err(error) => Err(error),
-    }
-}
+use wasm_typing_families::seldom_step;
+use wasm_typing_families::typing_blocks::typing_checks::OperatorError;
+use wasm_typing_families::typing_blocks::typing_stacks::Stacks;
+use wasm_typing_families::typing_blocks::validator_resources::WasmModuleResources;
+use wasm_typing_families::typing_steps::{NotTaken, Told, told_step};
 
 /// Reads the next operator and takes its step, where it is one that compilers write less often or
 /// `br_table` to labels that take nothing. Where that isn't done all stays.

@@ -3,19 +3,18 @@
 ghost use Rattle.std.specs.Prelude.{◌≡◌, ◌≤◌, ◌<◌, true, [], Some, IfOk, OnOk, OnErr};
 ghost use Rattle.wasm_readers.specs.WasmReadersBytes.Reader.{SameInput, position_in, rest};
 ghost use Rattle.wasm_operators.specs.WasmOperatorsPlain.WasmSpec.Values.{u32_at};
-ghost use Rattle.wasm_typing_blocks.specs.WasmTypingChecks.WasmSpecSteps.Actions.{label};
-ghost use Rattle.wasm_typing_blocks.specs.WasmTypingChecks.WasmTypingStacks.BodyStacks.{state_of, Kept};
-ghost use Rattle.wasm_typing_blocks.specs.WasmTypingChecks.Steps.{typed};
+ghost use Rattle.wasm_typing_families.specs.WasmTypingBlocks.WasmTypingChecks.WasmSpecSteps.Actions.{label};
+ghost use Rattle.wasm_typing_families.specs.WasmTypingBlocks.WasmTypingChecks.WasmTypingStacks.BodyStacks.{state_of, Kept};
+ghost use Rattle.wasm_typing_families.specs.WasmTypingBlocks.WasmTypingChecks.Steps.{typed};
 ghost use Rattle.wasm_typing_validator.specs.Labels.{Lists};
 ghost use Rattle.wasm_typing_validator.specs.StepsFromBytes.{stepped};
 
 use std::alloc::Allocator;
 use wasm_operators::operators_plain::NumberType;
 use wasm_readers::BinaryReader;
-use wasm_typing_blocks::typing_stacks::{Stacks, TypeWord};
-use wasm_typing_blocks::validator_resources::WasmModuleResources;
-use wasm_typing_steps::NotTaken;
-use wasm_typing_steps::typing_control::{Block, frame_at, peek};
+use wasm_typing_families::typing_blocks::typing_stacks::{Stacks, TypeWord};
+use wasm_typing_families::typing_blocks::validator_resources::WasmModuleResources;
+use wasm_typing_families::typing_steps::{Block, NotTaken, frame_at, peek};
 
 /// Whether a label is that of a block without types, to which a branch takes nothing.
 #[inline(always)]

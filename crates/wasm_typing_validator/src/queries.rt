@@ -3,9 +3,9 @@
 ghost use Rattle.std.specs.Prelude.{◌≡◌, ◌≤◌, ◌<◌, ◌^◌, ◌-◌, length, slice_get, Some, IfSome};
 ghost use Rattle.std.specs.Option.{option_map};
 ghost use Rattle.wasm_readers_types.specs.WasmReadersValues.SeenValues.{val_of};
-ghost use Rattle.wasm_typing_blocks.specs.WasmTypingChecks.WasmSpecSteps.Meanings.{label_by};
-ghost use Rattle.wasm_typing_blocks.specs.WasmTypingChecks.WasmTypingStacks.SeenBlocks.{block_in, kind_of};
-ghost use Rattle.wasm_typing_steps.specs.WasmTypingControl.Blocks.{function_in, signature_in};
+ghost use Rattle.wasm_typing_families.specs.WasmTypingBlocks.WasmTypingChecks.WasmSpecSteps.Meanings.{label_by};
+ghost use Rattle.wasm_typing_families.specs.WasmTypingBlocks.WasmTypingChecks.WasmTypingStacks.SeenBlocks.{block_in, kind_of};
+ghost use Rattle.wasm_typing_families.specs.WasmTypingSteps.WasmTypingControl.Blocks.{function_in, signature_in};
 ghost use Rattle.wasm_typing_validator.specs.BodyTyping.{typed_state, locals_in};
 ghost use Rattle.wasm_typing_validator.specs.QueryResults.{known_type, shown_frame, label_counts_in, height_of_empty_in};
 
@@ -14,9 +14,9 @@ use std::alloc::Allocator;
 use wasm_operators::{BlockType, FrameKind};
 use wasm_readers::readers_errors::WasmFeatures;
 use wasm_readers_types::{CompositeInnerType, ValType};
-use wasm_typing_blocks::typing_stacks::{BlockWord, Operand};
-use wasm_typing_blocks::validator_resources::WasmModuleResources;
-use wasm_typing_steps::typing_control::{Block, frame_at};
+use wasm_typing_families::typing_blocks::typing_stacks::{BlockWord, Operand};
+use wasm_typing_families::typing_blocks::validator_resources::WasmModuleResources;
+use wasm_typing_families::typing_steps::{Block, frame_at};
 
 /// A control frame (Core Specification 3.0, Appendix, Validation Algorithm): what opened it, its
 /// block type, how many operands stood below and how many locals had been set before it, and

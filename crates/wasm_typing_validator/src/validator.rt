@@ -2,29 +2,31 @@
 
 ghost use Rattle.std.specs.Prelude.{◌≡◌, ◌≤◌, ◌+◌, ◌++◌, true, false, not, ◌||◌, length, map, is_ok, IfErr, IfOk, OnOk, IsSome};
 ghost use Rattle.std.specs.Option.{option_map};
-ghost use Rattle.wasm_typing_blocks.specs.WasmTypingChecks.WasmSpecRules.FeatureFlags.{features_of};
+ghost use Rattle.wasm_typing_families.specs.WasmTypingBlocks.WasmTypingChecks.WasmSpecRules.FeatureFlags.{features_of};
 ghost use Rattle.wasm_readers_types.specs.WasmReadersValues.SeenValues.{val_of};
 ghost use Rattle.wasm_operators.specs.SeenOperators.{operator_of};
-ghost use Rattle.wasm_typing_blocks.specs.WasmTypingChecks.WasmSpecSteps.Meanings.{has_default};
-ghost use Rattle.wasm_typing_blocks.specs.WasmTypingChecks.WasmSpecSteps.Steps.{is_finished};
-ghost use Rattle.wasm_typing_blocks.specs.WasmTypingChecks.WasmValidatorResources.Answers.{val_in, IsWrittenVal};
-ghost use Rattle.wasm_typing_blocks.specs.WasmTypingChecks.WasmTypingStacks.BodyStacks.{Kept};
-ghost use Rattle.wasm_typing_steps.specs.WasmTypingControl.Blocks.{function_in};
+ghost use Rattle.wasm_typing_families.specs.WasmTypingBlocks.WasmTypingChecks.WasmSpecSteps.Meanings.{has_default};
+ghost use Rattle.wasm_typing_families.specs.WasmTypingBlocks.WasmTypingChecks.WasmSpecSteps.Steps.{is_finished};
+ghost use Rattle.wasm_typing_families.specs.WasmTypingBlocks.WasmTypingChecks.WasmValidatorResources.Answers.{val_in, IsWrittenVal};
+ghost use Rattle.wasm_typing_families.specs.WasmTypingBlocks.WasmTypingChecks.WasmTypingStacks.BodyStacks.{Kept};
+ghost use Rattle.wasm_typing_families.specs.WasmTypingSteps.WasmTypingControl.Blocks.{function_in};
 ghost use Rattle.wasm_typing_validator.specs.StackSteps.{Steps, IsWrittenInstruction};
 ghost use Rattle.wasm_typing_validator.specs.OperatorVisits.{IsToldAt, StepsAt};
 ghost use Rattle.wasm_typing_validator.specs.ValidatorFailures.{IsFailure, failure_at};
 ghost use Rattle.wasm_typing_validator.specs.BodyTyping.{typed_state, parameter, BeginsBody, BeginsConstant, Defines, HasMany, IsRefused};
 
-use crate::steps::step;
 use std::alloc::{AllocError, Allocator, Global};
 use wasm_operators::{FrameKind, Operator};
 use wasm_readers::readers_errors::{Error, WasmFeatures};
 use wasm_readers_types::{CompositeInnerType, ValType};
-use wasm_typing_blocks::typing_checks::{OperatorError, OperatorFault, OperatorRule};
-use wasm_typing_blocks::typing_stacks::{
+use wasm_typing_families::step;
+use wasm_typing_families::typing_blocks::typing_checks::{
+    OperatorError, OperatorFault, OperatorRule,
+};
+use wasm_typing_families::typing_blocks::typing_stacks::{
     BlockWord, LocalWord, Locals, MAX_LOCALS, Stacks, TypeWord,
 };
-use wasm_typing_blocks::validator_resources::WasmModuleResources;
+use wasm_typing_families::typing_blocks::validator_resources::WasmModuleResources;
 
 /// The typing of one function body or one constant expression, operator by operator (Core
 /// Specification 3.0, Appendix, Validation Algorithm). It keeps operands, frames and locals; what

@@ -2,7 +2,7 @@
 
 ghost use Rattle.std.specs.Prelude.{◌≡◌, true, false, not, ◌||◌, is_ok, IfErr};
 ghost use Rattle.wasm_operators.specs.SeenOperators.{operator_of};
-ghost use Rattle.wasm_typing_blocks.specs.WasmTypingChecks.WasmTypingStacks.BodyStacks.{Kept};
+ghost use Rattle.wasm_typing_families.specs.WasmTypingBlocks.WasmTypingChecks.WasmTypingStacks.BodyStacks.{Kept};
 ghost use Rattle.wasm_typing_validator.specs.StackSteps.{IsWrittenInstruction};
 ghost use Rattle.wasm_typing_validator.specs.BodyTyping.{typed_state};
 ghost use Rattle.wasm_typing_validator.specs.OperatorVisits.{IsToldAt, StepsAt};
@@ -12,7 +12,7 @@ use crate::validator::OperatorValidator;
 use std::alloc::{Allocator, Global};
 use wasm_operators::Operator;
 use wasm_readers::readers_errors::Error;
-use wasm_typing_blocks::validator_resources::WasmModuleResources;
+use wasm_typing_families::typing_blocks::validator_resources::WasmModuleResources;
 
 /// A validator of operators with what it looks up of the module, for as long as operators are
 /// handed to it.

@@ -6,13 +6,13 @@ ghost use Rattle.wasm_readers_types.specs.WasmReadersValues.SeenValues.{val_of};
 ghost use Rattle.wasm_operators.specs.SeenControl.{block_of, control_of};
 ghost use Rattle.wasm_operators.specs.SeenLegacy.{legacy_of};
 ghost use Rattle.wasm_operators.specs.SeenOperators.{operator_of};
-ghost use Rattle.wasm_typing_blocks.specs.WasmTypingChecks.WasmValidatorResources.Answers.{IsWrittenVal};
-ghost use Rattle.wasm_typing_blocks.specs.WrittenOperators.{IsWrittenBlock, IsWrittenControl, IsWrittenLegacy};
+ghost use Rattle.wasm_typing_families.specs.WasmTypingBlocks.WasmTypingChecks.WasmValidatorResources.Answers.{IsWrittenVal};
+ghost use Rattle.wasm_typing_families.specs.WasmTypingBlocks.WrittenOperators.{IsWrittenBlock, IsWrittenControl, IsWrittenLegacy};
 ghost use Rattle.wasm_typing_validator.specs.StackSteps.{IsWrittenInstruction};
 
 use wasm_operators::{BlockType, ControlOperator, LegacyOperator, Operator};
 use wasm_readers_types::ValType;
-use wasm_typing_casts::{is_written_cast, is_written_heap, is_written_reference};
+use wasm_typing_families::typing_casts::{is_written_cast, is_written_heap, is_written_reference};
 
 /// Whether an index in this type, if there is one, is a type index of a module, and neither a
 /// position in a recursion group nor the id of a type in a list.

@@ -1,5 +1,5 @@
 use Rattle.wasm_readers.specs.WasmReadersBytes.Reader.{rest}
-use Rattle.wasm_typing_blocks.specs.WasmTypingChecks.WasmTypingStacks.BodyStacks.{state_of}
+use Rattle.wasm_typing_families.specs.WasmTypingBlocks.WasmTypingChecks.WasmTypingStacks.BodyStacks.{state_of}
 use Rattle.wasm_typing_validator.proofs.BranchTables.{tabled}
 use Rattle.wasm_typing_validator.proofs.labels.step_by_labels.Goals as goal
 

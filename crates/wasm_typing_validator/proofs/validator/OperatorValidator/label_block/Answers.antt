@@ -1,6 +1,6 @@
 use Rattle.std.proofs.Common.{arith}
 use Rattle.wasm_operators.specs.SeenControl.{block_of}
-use Rattle.wasm_typing_blocks.specs.WasmTypingChecks.WasmTypingStacks.BodyStacks.{state_of}
+use Rattle.wasm_typing_families.specs.WasmTypingBlocks.WasmTypingChecks.WasmTypingStacks.BodyStacks.{state_of}
 use Rattle.wasm_typing_validator.proofs.FrameQueries.{label_there, no_label, none_behind}
 use Rattle.wasm_typing_validator.proofs.validator.OperatorValidator.label_block.Goals as goal
 

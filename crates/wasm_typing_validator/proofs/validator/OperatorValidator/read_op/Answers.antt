@@ -1,7 +1,7 @@
 use Rattle.wasm_readers.specs.WasmReadersBytes.Reader.{rest}
 use Rattle.wasm_operators.specs.SeenOperators.{operator_of}
 use Rattle.wasm_typing_validator.specs.BodyTyping.{typed_state}
-use Rattle.wasm_typing_validator.proofs.WrittenInstructions.{is_written}
+use Rattle.wasm_typing_families.proofs.WrittenInstructions.{is_written}
 use Rattle.wasm_typing_validator.proofs.ByteSteps.{not_served, step_taken, step_refused}
 use Rattle.wasm_typing_validator.proofs.validator.OperatorValidator.read_op.Goals as goal
 

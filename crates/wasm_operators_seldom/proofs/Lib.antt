@@ -1,0 +1,2 @@
+pub mod Cited
+pub mod ShortTypes
