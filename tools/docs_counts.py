@@ -97,6 +97,11 @@ def tuple_constant(tree, name):
     return int(row[2].split(", ")[row[1].split(", ").index(name)].replace("_", ""))
 
 
+def walks_of(tree, name):
+    """How many walks tools/check_crates.py lets lead down from a crate that may have more than the others."""
+    return int(re.search(rf'"{name}": ([\d_]+)', tree.read("tools/check_crates.py"))[1].replace("_", ""))
+
+
 def counts(tree):
     """Each number that documents say of the sources: how they say it, and the number. A number behind `some` or `over` may be a twentieth more or less."""
     flags = len(flags_of(tree))
@@ -118,8 +123,10 @@ def counts(tree):
         (rf"{DIGITS} (?:of the |other )?crates\b", {len(tree.crates()), tuple_constant(tree, "MOST_CRATES")}),
         (rf"{DIGITS} (?:tests|calls) by hand", {by_hand_calls}),
         (rf"{DIGITS} (?:features|flags|proposals)\b", {flags}),
-        (rf"more than {DIGITS} (?:walks|such paths)", {tuple_constant(tree, "MOST_WALKS")}),
-        (rf"`test_all` no more than {DIGITS}", {tuple_constant(tree, "MOST_WALKS_OF_ALL")}),
+        (rf"more than {DIGITS} (?:walks|of them)|at {DIGITS} at most", {tuple_constant(tree, "MOST_WALKS")}),
+        (rf"`test_all`(?: no more than)? {DIGITS}", {tuple_constant(tree, "MOST_WALKS_OF_ALL")}),
+        (rf"`wasm_validator_tables` {DIGITS}|may have {DIGITS} walks", {walks_of(tree, "wasm_validator_tables")}),
+        (rf"`ruthvelka_c`(?: over it)? {DIGITS}", {walks_of(tree, "ruthvelka_c")}),
         (rf"functions and {DIGITS} lines", {tuple_constant(tree, "MOST_LINES")}),
         (rf"{DIGITS} lines in `c/`", {count_lines(tree, *(it for it in tree.files("c", ending=".c") if it.count("/") == 1))}),
         (rf"{DIGITS} lines of \[?definitions", {Specification.of(tree).theorem}),
@@ -148,7 +155,7 @@ def check_counts(tree):
                 for found in re.finditer(rf"(?<![\w,.])(?:{pattern})", text):
                     word = next(it for it in found.groups() if it)
                     number = WORDS[word] if word in WORDS else int(word.replace(",", ""))
-                    before = text[: found.start(found.groups().index(word) + 1)]
+                    before = text[: found.start()]
                     loose = re.search(r"\b(?:some|about|over|more than|almost) $", before)
                     if number not in values and not (loose and any(abs(number - it) * 20 <= it for it in values)):
                         yield f"{path}:{at}: {found[0].strip()}: there are {' or '.join(f'{it:,}' for it in sorted(values))}"

@@ -43,6 +43,8 @@ PLANTS = [
     ("another number of rows", "README.md", HEAD, "5,001 rows of modules, and more.", "counts"),
     ("another number of wrong bodies", "CONTRIBUTING.md", HEAD, "There are 1,300 wrong bodies.", "counts"),
     ("another number of crates", "docs/ARCHITECTURE.md", HEAD, "The 70 crates are proved.", "counts"),
+    ("another limit of walks", "CONTRIBUTING.md", r"more than 3,900 walks", "more than 3,800 walks", "counts"),
+    ("another limit of the walks of one crate", "docs/ARCHITECTURE.md", r"`ruthvelka_c` 8,800", "`ruthvelka_c` 8,900", "counts"),
     ("another limit", "docs/THEOREM.md", r"\(50,000\)", "(60,000)", "counts"),
     ("another number of lines", "docs/DEFINITIONS.md", r"\(510 lines\)", "(433 lines)", "counts"),
     ("another number of lines, said roughly", "README.md", HEAD, "Read some 8,000 lines, with laws and examples.", "counts"),
