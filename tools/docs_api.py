@@ -40,14 +40,25 @@ PAGES = {
         "get a verdict on a module, a list of modules, a section or a body",
         ["gate.rt", "interpreter.rt", "heights.rt", "own_look_ups.rt"],
         "`validate` answers for one module, and `validate_list` for a list that shares ids of types. A `Validator` takes a module payload by payload, "
-        "and a `FuncValidator` a body operator by operator.",
+        "and a `FuncValidator` a body operator by operator. Where a method speaks of a section's start or first byte, that is the first byte of the "
+        "section's contents, behind its id and its size.\n\n"
+        "Features are combined by the methods of `Flags`: `WasmFeatures::STANDARD.union(WasmFeatures::CRATE_LIMITS)` gives the limits for gates besides, "
+        "`difference` takes features away, and `contains` asks for them.\n\n"
+        "Look-ups of one's own, for bodies without a `Validator`, implement `WasmModuleResources`: `crates/examples_own_module` does it. References in "
+        "what they answer have to be ids (`UnpackedIndex::Id`) and never a module's type indices, and the answers have to stay the same for a whole body.\n\n"
+        "Side tables, for interpreters that run code in place, are made by crates of their own, which `bin/vendor FOLDER wasm_validator_tables` copies "
+        "too: `validate_with_side_table` of `wasm_validator_side_table` for a body, and `make_tables` of `wasm_validator_tables` for a module. Their "
+        "positions are offsets from the start of the input, in 32 bits; `crates/examples_in_place` runs code over them.",
     ),
     "types": (
         "Types and linking",
         "ask for types and index spaces, and link modules",
         ["inspection.rt", "linker.rt", "proved_linker.rt", "interning.rt"],
         "`Types`, which validation returns, shows a module's index spaces. Its types have ids in a `TypeList`, which all modules of one validator share, "
-        "and which says whether one type is below another and what may be given for an import.",
+        "and which says whether one type is below another and what may be given for an import. To ask about types of two modules, ask the list of the "
+        "one that was validated later, which begins with that of the earlier one. An id of another validator is taken for one of this validator: no call "
+        "can tell. What `entity_type_from_import` gives of tables and globals has references as the import writes them, by type indices of the "
+        "module; what `core_imports` and `core_exports` give has ids, as `entity_is_subtype` wants them.",
     ),
     "errors": (
         "Errors",
@@ -312,7 +323,7 @@ class Pages:
 
     def write_page(self, page):
         title, _, _, first = PAGES[page]
-        out = [f"# {title}", "", wrap(first), ""]
+        out = [f"# {title}", "", "\n\n".join(map(wrap, first.split("\n\n"))), ""]
         out += ["Made by `tools/write_docs.py` from the sources. [API.md](../API.md) says what holds of all pages, and lists all names.", ""]
         groups = [(group, self.groups[at]) for at, (of, group, _) in enumerate(GROUPS) if of == page and self.groups[at]]
         for group, names in groups:
@@ -382,7 +393,7 @@ def declaration(item):
         return "\n".join(head_of(rows, at)) if item.kind in ("const", "type") else re.sub(r"\((?!.*\bpub ).*\)(?=;$)", "(..)", whole[0])
     if item.kind == "struct":
         inner = with_texts(whole, lambda row: re.match(r"    pub (?!ghost)", row))
-        return "\n".join([whole[0], *inner, whole[-1]]) if inner else re.sub(r" *\{$", "", whole[0]) + " { .. }"
+        return "\n".join([whole[0], *inner, whole[-1]]) if inner else re.sub(r" *\{$", " { .. }", re.sub(r"\($", "(..);", whole[0]))
     if item.kind == "trait":
         inner = with_texts(whole, lambda row: re.match(r"    (type|const|ghost (?!use)).*;$", row))
         return "\n".join([whole[0], *inner, "    ..", whole[-1]])

@@ -42,7 +42,8 @@ CONDITIONS = [
     (r"IsSome \(top_of_heap .*", "the look-ups know the type that it names"),
     (r"IsKnown(?:In)? \(asked self\.now\) .*", "the look-ups know the id in it"),
     (r"IsSome \(function_in \(T\.context resources\.now\) (\w+)\)", "`{0}` is the index of a function type"),
-    (r"self\.old\.failed ≡ false", "the validator hasn't failed"),
+    (r"self\.old\.(?:validator\.)?failed ≡ false", "the validator hasn't failed"),
+    (r"AreIn self\.now\.groups (\w)_group\.index .*", "each reference in `{0}` is an id of the list, or a position in the group `{0}_group`"),
     # how many there are
     (r"length self\.old\.(\w+) \+ 1 < 2 \^ 32", "there are fewer {0} than 2^32 - 1"),
     (r"length \(ids self\.now\) < 2 \^ 32", "there are fewer types than 2^32"),
