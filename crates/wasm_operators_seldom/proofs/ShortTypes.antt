@@ -3,7 +3,7 @@ use Rattle.std.proofs.Common.{◌≡◌, ◌<◌, ◌^◌, ℕ, List, ◌∷◌,
 use Rattle.std.specs.Prelude.{nat_lt, ◌==◌}
 use Rattle.std.proofs.lemmas.Bool.Decides.{nat_tests}
 use Rattle.wasm_operators.specs.WasmOperatorsPlain.WasmSpec.BinaryTypes.{heap_at, val_at, ref_at}
-use Rattle.wasm_operators.specs.WasmOperatorsPlain.WasmSpec.Syntax.{Ref, abstract_heap, concrete, func_heap, reference}
+use Rattle.wasm_operators.specs.WasmOperatorsPlain.WasmSpec.Syntax.{Ref, abstract_heap, concrete, extern_heap, func_heap, reference}
 use Rattle.wasm_operators.specs.WasmOperatorsPlain.WasmReadersTypes.WasmReadersValues.declared.indices.UnpackedIndex.{UnpackedIndex}
 use Rattle.wasm_operators.specs.WasmOperatorsPlain.WasmReadersTypes.WasmReadersValues.declared.indices.UnpackedIndex.TheVariants.{Module}
 use Rattle.wasm_operators.specs.WasmOperatorsPlain.WasmReaders.WrittenIndices.{written}
@@ -35,10 +35,14 @@ module _ (b : ℕ) (bytes more : List ℕ) where
       let is_75 : (b == 0x75) ≡ false = grind (arith, nat_tests) in
       rw (e, is_62, is_65, is_70, is_6f, is_6e, is_6d, is_6c, is_6b, is_6a, is_69, is_68, is_71, is_72, is_73, is_74, is_75, l, m) refl
 
-  -- that of functions
+  -- the heap types `func` and `extern`
   pub function_heap : bytes ≡ b ∷ more → b ≡ 0x70 → heap_at written bytes ≡ Some (abstract_heap false func_heap, more)
   unfolding heap_at
   function_heap e f = rw (e, f) refl
+
+  pub host_heap : bytes ≡ b ∷ more → b ≡ 0x6f → heap_at written bytes ≡ Some (abstract_heap false extern_heap, more)
+  unfolding heap_at
+  host_heap e f = rw (e, f) refl
 
   -- what a branch on a cast says of null
   pub of_0 : bytes ≡ b ∷ more → b ≡ 0 → cast_flags_at bytes ≡ Some ((false, false), more)

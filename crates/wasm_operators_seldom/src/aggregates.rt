@@ -47,8 +47,38 @@ pub fn next_struct(reader: &mut BinaryReader, code: u32) -> Option<StructOperato
     }
 }
 
-/// The operator on arrays of this code that takes an element or gives it, or the number of elements,
-/// if it is one and its index is next.
+/// The operator on arrays of this code that writes several elements, if it is one and its indices
+/// are next.
+#[inline(always)]
+#[tactic(auto, unfolding(crate::proofs::Cited::aggregate_from, crate::proofs::Cited::array_from))]
+fn next_write_of_array(reader: &mut BinaryReader, code: u32) -> Option<ArrayOperator>
+    ensures same { SameInput reader.old reader.new }
+    ensures onward { position_in reader.old ≤ position_in reader.new }
+    ensures some { IfSome result (λ op. aggregate_from written code (rest reader.old)
+        ≡ Some (array op, rest reader.new)) }
+{
+    match code {
+        16 => Some(ArrayOperator::ArrayFill {
+            array_type_index: reader.next_var_u32()?,
+        }),
+        17 => Some(ArrayOperator::ArrayCopy {
+            array_type_index_dst: reader.next_var_u32()?,
+            array_type_index_src: reader.next_var_u32()?,
+        }),
+        18 => Some(ArrayOperator::ArrayInitData {
+            array_type_index: reader.next_var_u32()?,
+            array_data_index: reader.next_var_u32()?,
+        }),
+        19 => Some(ArrayOperator::ArrayInitElem {
+            array_type_index: reader.next_var_u32()?,
+            array_elem_index: reader.next_var_u32()?,
+        }),
+        _ => None,
+    }
+}
+
+/// The operator on arrays of this code that gets or sets an element, gives the length, or writes
+/// several elements, if it is one and its indices are next.
 #[inline(always)]
 #[tactic(auto, unfolding(crate::proofs::Cited::aggregate_from, crate::proofs::Cited::array_from))]
 fn next_access_of_array(reader: &mut BinaryReader, code: u32) -> Option<ArrayOperator>
@@ -71,14 +101,7 @@ fn next_access_of_array(reader: &mut BinaryReader, code: u32) -> Option<ArrayOpe
             array_type_index: reader.next_var_u32()?,
         }),
         15 => Some(ArrayOperator::ArrayLen),
-        16 => Some(ArrayOperator::ArrayFill {
-            array_type_index: reader.next_var_u32()?,
-        }),
-        17 => Some(ArrayOperator::ArrayCopy {
-            array_type_index_dst: reader.next_var_u32()?,
-            array_type_index_src: reader.next_var_u32()?,
-        }),
-        _ => None,
+        _ => next_write_of_array(reader, code),
     }
 }
 
@@ -105,6 +128,10 @@ pub fn next_array(reader: &mut BinaryReader, code: u32) -> Option<ArrayOperator>
         9 => Some(ArrayOperator::ArrayNewData {
             array_type_index: reader.next_var_u32()?,
             array_data_index: reader.next_var_u32()?,
+        }),
+        10 => Some(ArrayOperator::ArrayNewElem {
+            array_type_index: reader.next_var_u32()?,
+            array_elem_index: reader.next_var_u32()?,
         }),
         _ => next_access_of_array(reader, code),
     }

@@ -73,7 +73,13 @@ fn next_values(reader: &mut BinaryReader, immediates: Immediates) -> Option<Imme
         Immediates::Nothing => Some(ImmediateValues::Nothing),
         Immediates::Lane(_) => Some(ImmediateValues::Lane(reader.next_u8()?)),
         Immediates::Lanes => Some(ImmediateValues::Lanes(next_bits_128(reader)?)),
-        Immediates::Zero => None,
+        Immediates::Zero => {
+            if reader.next_u8()? == 0 {
+                Some(ImmediateValues::Nothing)
+            } else {
+                None
+            }
+        }
     }
 }
 

@@ -27,7 +27,7 @@ pub(crate) fn next_heap_type(reader: &mut BinaryReader) -> Option<HeapType>
 {
     let mut short = *reader;
     let byte = short.next_u8()?;
-    // Type indices of one byte are the most frequent, and references to functions.
+    // Type indices of one byte are the most frequent, and the heap types `func` and `extern`.
     if byte < 64 {
         reader.go_on_from(&short);
         return Some(HeapType::Concrete(UnpackedIndex::Module(u32::from(byte))));
@@ -37,6 +37,13 @@ pub(crate) fn next_heap_type(reader: &mut BinaryReader) -> Option<HeapType>
         return Some(HeapType::Abstract {
             shared: false,
             ty: AbstractHeapType::Func,
+        });
+    }
+    if byte == 0x6f {
+        reader.go_on_from(&short);
+        return Some(HeapType::Abstract {
+            shared: false,
+            ty: AbstractHeapType::Extern,
         });
     }
     match read_heap_type(reader) {

@@ -141,7 +141,7 @@ pub(crate) fn step_on_vectors<'a, A: Allocator, T: WasmModuleResources>(
 /// The step of the operator of this code behind the prefix `0xfe`.
 #[inline(never)]
 #[tactic(auto, using(crate::proofs::SeldomSteps::families))]
-pub(crate) fn step_on_shared<'a, A: Allocator, T: WasmModuleResources>(
+pub(crate) fn step_atomics<'a, A: Allocator, T: WasmModuleResources>(
     front: BinaryReader<'a>,
     reader: &mut BinaryReader<'a>,
     stacks: &mut Stacks<A>,

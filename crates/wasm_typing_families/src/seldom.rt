@@ -6,7 +6,7 @@ ghost use Rattle.wasm_typing_blocks.specs.WasmTypingChecks.WasmTypingStacks.Body
 ghost use Rattle.wasm_typing_families.specs.StepsFromBytes.{stepped};
 
 use crate::plain::{step_on_blocks, step_on_operands, step_on_values};
-use crate::prefixed::{step_aggregate, step_bulk, step_on_shared, step_on_vectors};
+use crate::prefixed::{step_aggregate, step_atomics, step_bulk, step_on_vectors};
 use std::alloc::Allocator;
 use wasm_readers::BinaryReader;
 use wasm_typing_blocks::typing_stacks::Stacks;
@@ -40,14 +40,14 @@ fn step_prefixed<'a, A: Allocator, T: WasmModuleResources>(
         0xfb => step_aggregate(front, reader, stacks, resources, code),
         0xfc => step_bulk(front, reader, stacks, resources, code),
         0xfd => step_on_vectors(front, reader, stacks, resources, code),
-        0xfe => step_on_shared(front, reader, stacks, resources, code),
+        0xfe => step_atomics(front, reader, stacks, resources, code),
         _ => Err(NotTaken::Left),
     }
 }
 
-/// Whether an operator that is typed here begins with this byte.
+/// Whether some operator that is typed here begins with this byte.
 #[inline(always)]
-fn is_seldom(opcode: u8) -> bool {
+fn begins_seldom(opcode: u8) -> bool {
     match opcode {
         0x02 | 0x03 | 0x04 | 0x05 | 0x08 | 0x0a | 0x0b => true,
         0x12 | 0x13 | 0x14 | 0x15 | 0x1b | 0x1c | 0x1f => true,
@@ -93,7 +93,12 @@ fn step_behind<'a, A: Allocator, T: WasmModuleResources>(
 }
 
 /// Reads the next operator and takes its step, where it is one that compilers write less often, or
-/// whose operands often only match what is wanted. Where that isn't done all stays.
+/// whose operands often only match what is wanted.
+///
+/// # Errors
+///
+/// Where that isn't done all stays: the operator is another, or it can't be read or isn't valid, or
+/// memory was refused.
 #[inline(always)]
 pub fn seldom_step<'a, A: Allocator, T: WasmModuleResources>(
     reader: &mut BinaryReader<'a>,
@@ -113,7 +118,7 @@ pub fn seldom_step<'a, A: Allocator, T: WasmModuleResources>(
     let Some(opcode) = look.next_u8() else {
         return Err(NotTaken::Left);
     };
-    if !is_seldom(opcode) {
+    if !begins_seldom(opcode) {
         return Err(NotTaken::Left);
     }
     let mut ahead = look;

@@ -2,7 +2,7 @@ use Rattle.wasm_readers.specs.WasmReadersBytes.Reader.{rest}
 use Rattle.wasm_readers.specs.WrittenIndices.{written}
 use Rattle.wasm_operators.specs.Instructions.{atomic, atomics_from}
 use Rattle.wasm_typing_families.proofs.SeldomSteps.{goes, stays}
-use Rattle.wasm_typing_families.proofs.prefixed.step_on_shared.Goals as goal
+use Rattle.wasm_typing_families.proofs.prefixed.step_atomics.Goals as goal
 
 pub returns-in-Some-clause-took : goal.returns-in-Some-clause-took
 returns-in-Some-clause-took g c =
