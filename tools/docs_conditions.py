@@ -41,7 +41,8 @@ CONDITIONS = [
     (r"IsSome \(sub_of_id \(context self\.now\) id\)", "the look-ups know the id"),
     (r"IsSome \(top_of_heap .*", "the look-ups know the type that it names"),
     (r"IsKnown(?:In)? \(asked self\.now\) .*", "the look-ups know the id in it"),
-    (r"IsSome \(function_in \(T\.context resources\.now\) (\w+)\)", "`{0}` is the index of a function type"),
+    (r"IsSome \(function_in \(T\.context _?resources\.now\) (\w+)\)", "`{0}` is the index of a function type"),
+    (r"Some \(sub_of (\w+)\.now\) ≡ sub_in \(T\.context _?resources\.now\) type_index", "`{0}` is the type with index `type_index`"),
     (r"self\.old\.(?:validator\.)?failed ≡ false", "the validator hasn't failed"),
     (r"AreIn self\.now\.groups (\w)_group\.index .*", "each reference in `{0}` is an id of the list, or a position in the group `{0}_group`"),
     # how many there are

@@ -1,5 +1,5 @@
 -- One step from bytes is reading, and the step of what was read.
-use Rattle.std.proofs.Common.{◌≡◌, ◌∙◌, refl, sym, ap, subst, ℕ, List, Option, Some, None, Result, Ok, Err}
+use Rattle.std.proofs.Common.{◌≡◌, ◌∙◌, refl, sym, ap, ℕ, List, Option, Some, None, Ok, Err}
 use Rattle.wasm_typing_families.specs.WasmTypingBlocks.WasmTypingChecks.WasmSpecRules.Attempts.{◌>>=◌}
 use Rattle.wasm_typing_families.specs.WasmTypingBlocks.WasmTypingChecks.WasmSpecRules.Contexts.{Context}
 use Rattle.wasm_readers.specs.WasmReadersBytes.Reader.{rest}
@@ -15,7 +15,7 @@ use Rattle.wasm_typing_families.specs.WasmTypingBlocks.WasmTypingChecks.WasmSpec
 use Rattle.wasm_typing_families.specs.WasmTypingBlocks.WasmTypingChecks.WasmSpecSteps.Machine.{State}
 use Rattle.wasm_typing_families.specs.WasmTypingBlocks.WasmTypingChecks.WasmSpecSteps.Steps.{step_in}
 use Rattle.wasm_typing_families.specs.WasmTypingBlocks.WasmTypingChecks.WasmValidatorResources.Answers.{world, written_index}
-use Rattle.wasm_typing_families.specs.WasmTypingBlocks.WasmTypingChecks.WasmTypingStacks.BodyStacks.{state_of, around, Kept}
+use Rattle.wasm_typing_families.specs.WasmTypingBlocks.WasmTypingChecks.WasmTypingStacks.BodyStacks.{state_of, around}
 use Rattle.wasm_typing_families.specs.WasmTypingBlocks.WasmTypingChecks.WasmTypingStacks.declared.stacks.Stacks.{Stacks}
 use Rattle.wasm_typing_families.specs.WasmTypingBlocks.WasmTypingChecks.Steps.{Took}
 use Rattle.wasm_typing_families.specs.WasmTypingBlocks.WasmTypingChecks.OperatorRefusals.{TellsError}
@@ -57,12 +57,3 @@ module _ {A : Type 0} (C : Context UnpackedIndex) (v : Stacks A) (r : BinaryRead
   step_refused i more (operator.Refused f) offset OutOfMemory w new behind e t p = absurd t
   step_refused i more operator.OutOfMemory offset OutOfMemory w new behind e t p = tt
   step_refused i more operator.OutOfMemory offset (Refused q) w new behind e t p = absurd t
-
-kept_around : {A : Type 0} (v w : Stacks A) (C : Context UnpackedIndex) → Kept v w → around w C ≡ around v C
-kept_around v w C k = rw (k.features, k.shared, k.content) refl
-
--- from where nothing changed
-pub from_the_same : {A : Type 0} (C : Context UnpackedIndex) (v w : Stacks A) (r s : BinaryReader) (q : Result (Unit {0}) Error) (new : State UnpackedIndex) (more : List ℕ) → Kept v w → state_of w ≡ state_of v → s ≡ r → ReadsStep q (stepped C w s) new more → ReadsStep q (stepped C v r) new more
-from_the_same C v w r s q new more k e f p =
-    let same : stepped C w s ≡ stepped C v r = ap (λ (x : BinaryReader). step_at (world C) (around w C) (state_of w) (rest x)) f ∙ ap (λ t. step_at (world C) (around w C) t (rest r)) e ∙ ap (λ B. step_at (world C) B (state_of v) (rest r)) (kept_around v w C k) in
-    subst (λ o. ReadsStep q o new more) same p

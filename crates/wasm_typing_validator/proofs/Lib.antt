@@ -9,6 +9,6 @@ pub mod CodeSurroundings
 pub mod FrameQueries
 pub mod LabelCounts
 pub mod Cited
-pub mod RareOperators
+pub mod UntakenSteps
 pub mod BranchTables
 pub mod ReadingFailures

@@ -1,15 +1,17 @@
 -- Locals that are defined.
 use Rattle.std.proofs.Common.{◌≡◌, ℕ, ◌+◌, ◌<◌, ◌≤◌, Bool, true, List, [], ◌∷◌, ◌++◌, length, take, map, get_or, refl, sym, ◌∙◌, ap, arith, add-one, append_assoc}
-use Rattle.std.specs.Prelude.{zero, suc, replicate}
+use Rattle.std.specs.Option.{option_map}
+use Rattle.std.specs.Prelude.{Option, Some, zero, suc, replicate}
 use Rattle.wasm_typing_families.specs.WasmTypingBlocks.WasmTypingChecks.WasmSpecRules.WasmSpec.Syntax.{Val}
 use Rattle.wasm_typing_families.specs.WasmTypingBlocks.WasmTypingChecks.WasmSpecRules.Limits.{most_locals}
 use Rattle.wasm_readers_types.specs.WasmReadersValues.SeenValues.{val_of}
 use Rattle.wasm_readers_types.specs.WasmReadersValues.declared.indices.UnpackedIndex.{UnpackedIndex}
 use Rattle.wasm_readers_types.specs.WasmReadersValues.declared.values.ValType.{ValType}
 use Rattle.wasm_typing_families.specs.WasmTypingBlocks.WasmTypingChecks.WasmSpecSteps.Bodies.{Local}
+use Rattle.wasm_typing_families.specs.WasmTypingBlocks.WasmTypingChecks.WasmSpecSteps.Meanings.{has_default}
 use Rattle.wasm_typing_families.specs.WasmTypingBlocks.WasmTypingChecks.WasmTypingStacks.Locals.{local_of}
 use Rattle.wasm_typing_families.specs.WasmTypingBlocks.WasmTypingChecks.WasmTypingStacks.declared.local_word.LocalWord.{LocalWord}
-use Rattle.wasm_typing_validator.specs.BodyTyping.{parameter}
+use Rattle.wasm_typing_validator.specs.BodyTyping.{parameter, declared_local}
 
 -- parameters, one after another
 abbrev pub parameters : List ValType → List (Local UnpackedIndex)
@@ -22,6 +24,13 @@ one_more (w ∷ vs) (suc n) v h = ap (λ us. parameter (val_of w) ∷ us) (one_m
 
 pub local_is : (l : Local UnpackedIndex) (x : Val UnpackedIndex) (b : Bool) → l.content ≡ x → l.set ≡ b → l ≡ record { content = x; set = b }
 local_is l x b e f = λ i. record { content = e i; set = f i }
+
+-- a local of the type that is resolved so, which is set where that type has a default value
+pub local_found : (w : LocalWord) (x y : Val UnpackedIndex) (b : Bool) (o : Option (Val UnpackedIndex)) → (local_of w).content ≡ x → x ≡ y → (local_of w).set ≡ b → b ≡ has_default y → o ≡ Some y
+    → Some (local_of w) ≡ option_map declared_local o
+local_found w x y b o c e s d f = ap Some (local_is (local_of w) y (has_default y) (c ∙ e) (s ∙ d)) ∙ sym (ap (option_map declared_local) f)
+
+pub ruleset locals_found = (local_found)
 
 count_of : (vs : List ValType) (xs : List (Local UnpackedIndex)) (n : ℕ) → n ≤ length vs → length (xs ++ parameters (take n vs)) ≡ length xs + n
 count_of vs (x ∷ xs) n h = let e = count_of vs xs n h in omega arith

@@ -20,7 +20,6 @@ use wasm_readers::BinaryReader;
 use wasm_readers::readers_errors::Error;
 use wasm_typing_arity::read_served;
 use wasm_typing_families::seldom_step;
-use wasm_typing_families::typing_blocks::typing_checks::OperatorError;
 use wasm_typing_families::typing_blocks::typing_stacks::Stacks;
 use wasm_typing_families::typing_blocks::validator_resources::WasmModuleResources;
 use wasm_typing_families::typing_steps::{NotTaken, Told, told_step};
@@ -28,7 +27,7 @@ use wasm_typing_families::typing_steps::{NotTaken, Told, told_step};
 /// Reads the next operator and takes its step, where it is one that compilers write less often or
 /// `br_table` to labels that take nothing. Where that isn't done all stays.
 #[inline(always)]
-#[tactic(auto, using(crate::proofs::RareOperators::tries))]
+#[tactic(auto, using(crate::proofs::UntakenSteps::tries))]
 fn step_otherwise<'a, A: Allocator, T: WasmModuleResources>(
     reader: &mut BinaryReader<'a>,
     stacks: &mut Stacks<A>,
@@ -59,7 +58,7 @@ impl<A: Allocator> OperatorValidator<A> {
     ///
     /// As [`OperatorValidator::frequent_op`].
     #[inline(always)]
-    #[tactic(auto, using(crate::proofs::RareOperators::tries))]
+    #[tactic(auto, using(crate::proofs::UntakenSteps::tries))]
     pub fn fast_op<'a, T: WasmModuleResources>(
         &mut self,
         resources: &T,

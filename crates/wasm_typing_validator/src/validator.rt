@@ -1,24 +1,26 @@
 //! The validator of operators.
 
-ghost use Rattle.std.specs.Prelude.{◌≡◌, ◌≤◌, ◌+◌, ◌++◌, true, false, not, ◌||◌, length, map, is_ok, IfErr, IfOk, OnOk, IsSome};
+ghost use Rattle.std.specs.Prelude.{◌≡◌, ◌≤◌, ◌+◌, ◌++◌, true, false, not, ◌||◌, Some, length, map, is_ok, IfErr, IfOk, OnOk, IsSome};
 ghost use Rattle.std.specs.Option.{option_map};
 ghost use Rattle.wasm_typing_families.specs.WasmTypingBlocks.WasmTypingChecks.WasmSpecRules.FeatureFlags.{features_of};
+ghost use Rattle.wasm_readers_types.specs.SeenTypes.{sub_of};
 ghost use Rattle.wasm_readers_types.specs.WasmReadersValues.SeenValues.{val_of};
 ghost use Rattle.wasm_operators.specs.SeenOperators.{operator_of};
 ghost use Rattle.wasm_typing_families.specs.WasmTypingBlocks.WasmTypingChecks.WasmSpecSteps.Meanings.{has_default};
 ghost use Rattle.wasm_typing_families.specs.WasmTypingBlocks.WasmTypingChecks.WasmSpecSteps.Steps.{is_finished};
-ghost use Rattle.wasm_typing_families.specs.WasmTypingBlocks.WasmTypingChecks.WasmValidatorResources.Answers.{val_in, IsWrittenVal};
+ghost use Rattle.wasm_typing_families.specs.WasmTypingBlocks.WasmTypingChecks.WasmValidatorResources.Answers.{sub_in, val_in, IsWrittenVal};
 ghost use Rattle.wasm_typing_families.specs.WasmTypingBlocks.WasmTypingChecks.WasmTypingStacks.BodyStacks.{Kept};
+ghost use Rattle.wasm_typing_families.specs.WasmTypingBlocks.WasmTypingChecks.WasmTypingStacks.Locals.{local_of};
 ghost use Rattle.wasm_typing_families.specs.WasmTypingSteps.WasmTypingControl.Blocks.{function_in};
 ghost use Rattle.wasm_typing_validator.specs.StackSteps.{Steps, IsWrittenInstruction};
 ghost use Rattle.wasm_typing_validator.specs.OperatorVisits.{IsToldAt, StepsAt};
 ghost use Rattle.wasm_typing_validator.specs.ValidatorFailures.{IsFailure, failure_at};
-ghost use Rattle.wasm_typing_validator.specs.BodyTyping.{typed_state, parameter, BeginsBody, BeginsConstant, Defines, HasMany, IsRefused};
+ghost use Rattle.wasm_typing_validator.specs.BodyTyping.{typed_state, parameter, declared_local, BeginsBody, BeginsConstant, Defines, HasMany, IsRefused};
 
 use std::alloc::{AllocError, Allocator, Global};
 use wasm_operators::{FrameKind, Operator};
 use wasm_readers::readers_errors::{Error, WasmFeatures};
-use wasm_readers_types::{CompositeInnerType, ValType};
+use wasm_readers_types::{CompositeInnerType, SubType, ValType};
 use wasm_typing_families::step;
 use wasm_typing_families::typing_blocks::typing_checks::{
     OperatorError, OperatorFault, OperatorRule,
@@ -88,27 +90,46 @@ fn has_default_value(ty: ValType) -> bool
     }
 }
 
-/// A type as it is written, by the identities that the module gives its types, if the features allow
-/// it and the module has it. An integer needs no look-up.
-#[inline(always)]
-fn resolve_type<T: WasmModuleResources>(
+/// A local of this type as it is written, by the identities that the module gives its types, if the
+/// features allow it and the module has it.
+#[inline(never)]
+#[tactic(auto, using(crate::proofs::LocalDefinitions::locals_found))]
+fn resolve_local<T: WasmModuleResources>(
     resources: &T,
     features: WasmFeatures,
     ty: ValType,
-) -> Option<ValType>
+) -> Option<LocalWord>
     requires { IsWrittenVal (val_of ty) }
-    ensures { option_map val_of result ≡ val_in (T.context resources.now) (features_of features)
-        (val_of ty) }
+    ensures { option_map local_of result ≡ option_map declared_local
+        (val_in (T.context resources.now) (features_of features) (val_of ty)) }
+{
+    let mut resolved = ty;
+    match resources.check_value_type(&mut resolved, &features, 0) {
+        Ok(()) => {
+            let local = LocalWord::new(TypeWord::new(resolved), has_default_value(resolved));
+            Some(local)
+        }
+        Err(_) => None,
+    }
+}
+
+/// The same. An integer needs no look-up, and is kept in registers: of any other type only a copy is
+/// lent.
+#[inline(always)]
+#[tactic(auto, using(crate::proofs::LocalDefinitions::locals_found))]
+fn find_local<T: WasmModuleResources>(
+    resources: &T,
+    features: WasmFeatures,
+    ty: ValType,
+) -> Option<LocalWord>
+    requires { IsWrittenVal (val_of ty) }
+    ensures { option_map local_of result ≡ option_map declared_local
+        (val_in (T.context resources.now) (features_of features) (val_of ty)) }
 {
     match ty {
-        ValType::I32 | ValType::I64 => Some(ty),
-        ValType::F32 | ValType::F64 | ValType::V128 | ValType::Ref(_) => {
-            let mut resolved = ty;
-            match resources.check_value_type(&mut resolved, &features, 0) {
-                Ok(()) => Some(resolved),
-                Err(_) => None,
-            }
-        }
+        ValType::I32 => Some(LocalWord::new(TypeWord::new(ValType::I32), true)),
+        ValType::I64 => Some(LocalWord::new(TypeWord::new(ValType::I64), true)),
+        other => resolve_local(resources, features, other),
     }
 }
 
@@ -184,10 +205,35 @@ impl<A: Allocator> OperatorValidator<A> {
         ensures failed { self.new.failed ≡ not (is_ok result) }
     {
         self.failed = true;
-        let sub = match resources.sub_type_at(type_index) {
-            Some(sub) => sub,
-            None => return Err(refuse(OperatorRule::UnknownType)),
-        };
+        match resources.sub_type_at(type_index) {
+            Some(sub) => self.begin_func_of_type(type_index, features, resources, sub),
+            None => Err(refuse(OperatorRule::UnknownType)),
+        }
+    }
+
+    /// As [`OperatorValidator::begin_func`], where the type of this index has been looked up.
+    ///
+    /// # Errors
+    ///
+    /// As [`OperatorValidator::begin_func`].
+    #[inline(always)]
+    #[tactic(auto, using(crate::proofs::BodyStarts::begins))]
+    pub fn begin_func_of_type<T: WasmModuleResources>(
+        &mut self,
+        type_index: u32,
+        features: WasmFeatures,
+        _resources: &T,
+        sub: &SubType<T::A>,
+    ) -> Result<(), OperatorError>
+        requires known { IsSome (function_in (T.context _resources.now) type_index) }
+        requires found { Some (sub_of sub.now) ≡ sub_in (T.context _resources.now) type_index }
+        ensures begins { OnOk result
+            (BeginsBody self.new (T.context _resources.now) type_index) }
+        ensures features { self.new.stacks.features ≡ features }
+        ensures many { HasMany result (function_in (T.context _resources.now) type_index) }
+        ensures failed { self.new.failed ≡ not (is_ok result) }
+    {
+        self.failed = true;
         let params = match &sub.composite_type.inner {
             CompositeInnerType::Func(signature) => signature.params(),
             _ => return Err(refuse(OperatorRule::NotAFunction)),
@@ -277,14 +323,17 @@ impl<A: Allocator> OperatorValidator<A> {
             return Err(failure());
         }
         self.failed = true;
-        let resolved = match resolve_type(resources, self.stacks.features, ty) {
-            Some(resolved) => resolved,
-            None => return Err(refuse_type(resources, self.stacks.features, ty)),
+        let local = match find_local(resources, self.stacks.features, ty) {
+            Some(local) => local,
+            None => {
+                // Lent as a copy, so that the type itself can be kept in registers.
+                let refused = ty;
+                return Err(refuse_type(resources, self.stacks.features, refused));
+            }
         };
         if !self.stacks.locals.has_room(count) {
             return Err(refuse(OperatorRule::TooManyLocals));
         }
-        let local = LocalWord::new(TypeWord::new(resolved), has_default_value(resolved));
         self.stacks.locals.define(count, local)?;
         self.failed = false;
         Ok(())

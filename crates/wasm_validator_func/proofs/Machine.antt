@@ -1,12 +1,12 @@
 -- The typing of a body, instruction by instruction.
-use Rattle.std.proofs.Common.{◌≡◌, ◌∙◌, refl, sym, ap, ℕ, zero, suc, true, false, List, length, if◌then◌else◌, Option, Some, None}
+use Rattle.std.proofs.Common.{◌≡◌, ◌∙◌, refl, sym, ap, subst, ℕ, zero, suc, true, false, List, length, if◌then◌else◌, Option, Some, None}
 use Rattle.std.specs.Option.{option_and_then}
 use Rattle.wasm_spec.specs.MatchingTests.{World}
 use Rattle.wasm_operators.specs.Instructions.{Instruction, instruction_at}
 use Rattle.wasm_spec_steps.specs.Bodies.{Surroundings}
 use Rattle.wasm_spec_steps.specs.Machine.{State}
 use Rattle.wasm_spec_steps.specs.Steps.{step_in, is_finished}
-use Rattle.wasm_validator_func.specs.Bodies.{typed_from, instructions_from}
+use Rattle.wasm_validator_func.specs.Bodies.{FindsTheSame, typed_from, instructions_from}
 
 module _ {R : Type 0} (W : World R) (B : Surroundings R) where
   abbrev pub here : State R → List ℕ → Option (State R × List ℕ)
@@ -32,6 +32,10 @@ module _ {R : Type 0} (W : World R) (B : Surroundings R) where
   pub end_here : (most : ℕ) (s : State R) (bytes : List ℕ) (all : Option (State R × List ℕ))
       → is_finished s ≡ true → typed_from W B most s bytes ≡ all → all ≡ Some (s, bytes)
   end_here most s bytes all closed so_far = sym so_far ∙ done most s bytes closed
+
+  -- the same way, by what is the same
+  pub leads_here : (s t u : State R) (bytes more behind : List ℕ) → FindsTheSame W B s bytes t more → u ≡ t → behind ≡ more → FindsTheSame W B s bytes u behind
+  leads_here s t u bytes more behind l e f = subst (λ x. FindsTheSame W B s bytes x behind) (sym e) (subst (λ xs. FindsTheSame W B s bytes t xs) (sym f) l)
 
   -- the whole way
   pub all_of : (s : State R) (bytes : List ℕ) → typed_from W B (length bytes) s bytes ≡ instructions_from W B s bytes

@@ -34,6 +34,10 @@ module _ {R : Type 0} (W : World R) (B : Surroundings R) where
       if is_finished s then Some (s, bytes)
       else option_and_then (λ i. option_and_then (λ t. typed_from most t i.1) (step_in W B i.0 s)) (instruction_at (λ n. n) bytes)
 
+  -- Within whatever number of steps, if no less than that of the bytes, something is found from the first state and bytes, it is found from the second ones too, within some such number.
+  abbrev pub FindsTheSame : State R → List ℕ → State R → List ℕ → Type 0
+  FindsTheSame s bytes t more = (most : ℕ) (all : Option (State R × List ℕ)) → length bytes ≤ most → typed_from most s bytes ≡ all → (m : ℕ) × (length more ≤ m) × (typed_from m t more ≡ all)
+
   -- the state behind the instructions that the bytes begin with, and the bytes behind them; each instruction takes at least a byte
   unfoldable pub instructions_from : State R → List ℕ → Option (State R × List ℕ)
   instructions_from s bytes = typed_from (length bytes) s bytes

@@ -3,13 +3,14 @@
 ghost use Rattle.std.specs.Prelude.{◌≡◌, ◌≤◌, ◌<◌, ◌||◌, not, true, false, is_ok, IfErr, OnOk};
 ghost use Rattle.wasm_readers_bytes.specs.Reader.{SameInput, position_in, rest};
 ghost use Rattle.wasm_readers_errors.specs.Refusals.{plain};
+ghost use Rattle.wasm_spec_steps.specs.Steps.{is_finished};
 ghost use Rattle.wasm_parser.specs.PayloadViews.{body_of, body_reader};
 ghost use Rattle.wasm_validator_resources.specs.Answers.{world};
 ghost use Rattle.wasm_typing_validator.specs.WasmTypingStacks.BodyStacks.{Kept};
 ghost use Rattle.wasm_typing_validator.specs.BodyTyping.{typed_state, locals_in};
 ghost use Rattle.wasm_typing_validator.specs.TypedInstructions.{within, IsRefusedAt, StandsIn, ReadsTo};
 ghost use Rattle.wasm_typing_validator.specs.StepsFromBytes.{ReadsStep, stepped};
-ghost use Rattle.wasm_validator_func.specs.Bodies.{instructions_from};
+ghost use Rattle.wasm_validator_func.specs.Bodies.{FindsTheSame, instructions_from};
 ghost use Rattle.wasm_validator_func.specs.BodyValidation.{body_in, Goes, Validates};
 
 use crate::locals::read_declarations;
@@ -65,6 +66,44 @@ fn read_one<'a, A: Allocator, T: WasmModuleResources>(
     step
 }
 
+/// Takes the steps by operators that can be taken fast, up to the `end` that closes the body. What
+/// takes a step is in line, and lends only copies of the reader, so that the reader is kept in
+/// registers.
+///
+/// # Errors
+///
+/// `Left` where an operator can't be taken fast, and `OutOfMemory` where memory was refused for it; the
+/// reader then stands before it.
+#[inline(never)]
+fn read_fast<'a, A: Allocator, T: WasmModuleResources>(
+    validator: &mut OperatorValidator<A>,
+    resources: &T,
+    reader: &mut BinaryReader<'a>,
+) -> Result<(), NotTaken>
+    requires { validator.old.failed ≡ false }
+    ensures leads { FindsTheSame (world (T.context resources.now))
+        (within validator.old (T.context resources.now)) (typed_state validator.old)
+        (rest reader.old) (typed_state validator.new) (rest reader.new) }
+    ensures finished { is_finished (typed_state validator.new) ≡ is_ok result }
+    ensures same { Kept validator.old.stacks validator.new.stacks }
+    ensures failed { validator.new.failed ≡ false }
+    ensures input { SameInput reader.old reader.new }
+    ensures onward { position_in reader.old ≤ position_in reader.new }
+{
+    let mut ahead = *reader;
+    'operators: while !validator.is_finished() {
+        match validator.fast_op(resources, &mut ahead) {
+            Ok(()) => continue,
+            Err(reason) => {
+                reader.go_on_from(&ahead);
+                return Err(reason);
+            }
+        }
+    }
+    reader.go_on_from(&ahead);
+    Ok(())
+}
+
 /// The instructions of a body, up to the `end` that closes it.
 fn read_instructions<'a, A: Allocator, T: WasmModuleResources>(
     validator: &mut OperatorValidator<A>,
@@ -81,19 +120,17 @@ fn read_instructions<'a, A: Allocator, T: WasmModuleResources>(
     ensures onward { position_in reader.old ≤ position_in reader.new }
     ensures place { IfErr result (StandsIn reader.old) }
 {
-    let mut ahead = *reader;
-    'operators: while !validator.is_finished() {
-        match validator.fast_op(resources, &mut ahead) {
-            Ok(()) => continue,
+    'instructions: while !validator.is_finished() {
+        match read_fast(validator, resources, reader) {
+            Ok(()) => return Ok(()),
             Err(NotTaken::Left) => {}
             Err(NotTaken::OutOfMemory) => return Err(out_of_memory(validator)),
         }
-        match read_one(validator, resources, &mut ahead) {
+        match read_one(validator, resources, reader) {
             Ok(()) => {}
             Err(error) => return Err(error),
         }
     }
-    reader.go_on_from(&ahead);
     Ok(())
 }
 

@@ -1,13 +1,14 @@
 //! The validator of one function body.
 
-ghost use Rattle.std.specs.Prelude.{◌≡◌, ◌≤◌, ◌<◌, ◌^◌, ◌-◌, ◌||◌, true, false, not, is_ok, is_some, length, slice_get, IfOk, IfErr, OnOk};
+ghost use Rattle.std.specs.Prelude.{◌≡◌, ◌≤◌, ◌<◌, ◌^◌, ◌-◌, ◌||◌, true, false, not, is_ok, is_some, Some, length, slice_get, IfOk, IfErr, OnOk};
 ghost use Rattle.std.specs.Option.{option_map};
 ghost use Rattle.wasm_readers_bytes.specs.Reader.{SameInput, position_in, place_of_next, rest};
 ghost use Rattle.wasm_spec_rules.specs.FeatureFlags.{features_of};
 ghost use Rattle.wasm_parser.specs.PayloadViews.{body_of, body_reader};
+ghost use Rattle.wasm_readers_types.specs.SeenTypes.{sub_of};
 ghost use Rattle.wasm_readers_types.specs.WasmReadersValues.SeenValues.{val_of};
 ghost use Rattle.wasm_operators.specs.SeenOperators.{operator_of};
-ghost use Rattle.wasm_validator_resources.specs.Answers.{IsWrittenVal};
+ghost use Rattle.wasm_validator_resources.specs.Answers.{sub_in, IsWrittenVal};
 ghost use Rattle.wasm_typing_validator.specs.WasmTypingStacks.BodyStacks.{Kept};
 ghost use Rattle.wasm_typing_validator.specs.WasmTypingControl.Blocks.{function_in};
 ghost use Rattle.wasm_typing_validator.specs.StackSteps.{IsWrittenInstruction};
@@ -26,7 +27,7 @@ use wasm_operators::Operator;
 use wasm_parser::FunctionBody;
 use wasm_readers::BinaryReader;
 use wasm_readers_errors::{Error, Fault, OperatorRule, Refusal, WasmFeatures};
-use wasm_readers_types::{CompositeInnerType, ValType};
+use wasm_readers_types::{CompositeInnerType, SubType, ValType};
 use wasm_typing_validator::{Frame, MAX_LOCALS, OperatorValidator, OperatorValidatorAllocations};
 use wasm_validator_resources::WasmModuleResources;
 
@@ -82,18 +83,24 @@ impl<A: Allocator + Copy + Default> Default for FuncValidatorAllocations<A> {
     }
 }
 
-/// Accepts the index of a function type.
+/// The function type of this index.
 ///
 /// # Errors
 ///
-/// Refuses any other, at 0.
-fn check_function_type<T: WasmModuleResources>(resources: &T, ty: u32) -> Result<(), Error>
+/// Refuses any other index, at 0.
+#[inline(always)]
+fn find_function_type<'a, T: WasmModuleResources>(
+    resources: &'a T,
+    ty: u32,
+) -> Result<&'a SubType<T::A>, Error>
     ensures known { is_ok result ≡ is_some (function_in (T.context resources.now) ty) }
+    ensures found { IfOk result (λ s. Some (sub_of s.now)
+        ≡ sub_in (T.context resources.now) ty) }
     ensures first { IfErr result StandsFirst }
 {
     match resources.sub_type_at(ty) {
         Some(sub) => match &sub.composite_type.inner {
-            CompositeInnerType::Func(_) => Ok(()),
+            CompositeInnerType::Func(_) => Ok(sub),
             _ => Err(Error::Refused(Refusal::new(Fault::NotAFunctionType(ty), 0))),
         },
         None => Err(Error::Refused(Refusal::new(Fault::UnknownType(ty), 0))),
@@ -121,11 +128,11 @@ pub(crate) fn begin<A: Allocator, T: WasmModuleResources>(
     ensures many { HasMore result (function_in (T.context resources.now) ty) }
     ensures first { IfErr result StandsFirst }
 {
-    match check_function_type(resources, ty) {
-        Ok(()) => {}
+    let sub = match find_function_type(resources, ty) {
+        Ok(sub) => sub,
         Err(error) => return Err(error),
-    }
-    let begun = validator.begin_func(ty, features, resources);
+    };
+    let begun = validator.begin_func_of_type(ty, features, resources, sub);
     match begun {
         Ok(()) => {}
         Err(error) => return Err(error.at(0)),

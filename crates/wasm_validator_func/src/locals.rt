@@ -19,6 +19,7 @@ use wasm_validator_resources::WasmModuleResources;
 /// A declaration: how many locals, and their type, which names type indices of the module (Core
 /// Specification 3.0, Binary Format, Modules, Code Section).
 #[tactic(auto, using(crate::proofs::DeclarationReads::declarations), unfolding(wasm_spec_steps::specs::FunctionBodies::declaration_at))]
+#[inline(always)]
 fn read_declaration(reader: &mut BinaryReader<'_>) -> Result<(u32, ValType), Refusal>
     ensures same { SameInput reader.old reader.new }
     ensures onward { position_in reader.old ≤ position_in reader.new }

@@ -229,6 +229,7 @@ impl<A: Allocator + Copy> Validator<A> {
     }
 
     /// Takes a body.
+    #[inline(always)]
     fn gather_body<'a>(
         &mut self,
         body: &FunctionBody<'a>,
@@ -319,6 +320,7 @@ pub fn answer_all<A: Allocator + Copy>(validator: &mut Validator<A>, bytes: &[u8
 
 impl<'a, A: Allocator> Bodies<'a, A> {
     /// Puts the body of this function behind the others, which are checked by the same look-ups.
+    #[inline(always)]
     fn take(
         &mut self,
         function: FuncToValidate<ValidatorResources<A>>,
@@ -343,6 +345,7 @@ impl<'a, A: Allocator> Bodies<'a, A> {
     }
 
     /// Puts a body behind the others.
+    #[inline(always)]
     fn push(
         &mut self,
         resources: ValidatorResources<A>,

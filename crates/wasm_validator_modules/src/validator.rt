@@ -669,6 +669,7 @@ impl<A: Allocator + Copy> Validator<A> {
     ///
     /// Refused, at the body's first byte: where none may come, which changes nothing; and where the
     /// body is longer than 7,654,321 bytes, or memory is refused, and the validator has then failed.
+    #[inline(always)]
     pub fn code_section_entry(
         &mut self,
         body: &FunctionBody<'_>,

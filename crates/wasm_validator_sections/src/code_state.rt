@@ -66,6 +66,7 @@ impl<A: Allocator + Copy> CodeState<A> {
     /// # Errors
     ///
     /// Refused, at the offset, where no body is to come, which changes nothing.
+    #[inline(always)]
     pub fn next_code_index_and_type(&mut self, offset: u64) -> Result<(u32, u32), Refusal>
         ensures some { is_ok result ≡ not (expected_bodies self.old.spaces.value
             - self.old.taken == 0) }

@@ -192,6 +192,7 @@ fn check_size(body: &FunctionBody<'_>, offset: u64) -> Result<(), Refusal>
 }
 
 /// Hands out the function with this index and this index of its type, whose body these bytes are.
+#[inline(always)]
 fn hand_out<A: Allocator + Copy>(
     code: &CodeState<A>,
     index: u32,
@@ -222,6 +223,7 @@ fn hand_out<A: Allocator + Copy>(
 
 /// Takes one body more, where one is to come. Where it is too long, or memory is refused, the
 /// validator has failed.
+#[inline(always)]
 pub fn take_body<A: Allocator + Copy>(
     state: &mut State<A>,
     features: WasmFeatures,
