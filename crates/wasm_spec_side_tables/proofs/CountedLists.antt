@@ -51,4 +51,7 @@ put_in (y ∷ xs) (suc n) (suc k) x h = ap (λ us. y ∷ us) (put_in xs n k x (o
 pub put_nowhere : {X : Type 0} (xs : List X) (n k : ℕ) (x : X) → n ≤ length xs → n ≤ k → take n xs ≡ slice_set (take n xs) k x
 put_nowhere xs n k x l h = sym (set_past (take n xs) k x (rw (length-take-le n xs l) h))
 
-pub ruleset writes = (put_in, put_nowhere)
+pub put_in_both : {X : Type 0} (xs : List X) (n i j : ℕ) (x : X) → i < n → j < n → take n (set (set xs i x) j x) ≡ slice_set (slice_set (take n xs) i x) j x
+put_in_both xs n i j x h k = put_in (set xs i x) n j x k ∙ ap (λ us. slice_set us j x) (put_in xs n i x h)
+
+pub ruleset writes = (put_in, put_nowhere, put_in_both)

@@ -3,3 +3,4 @@ pub mod Lists
 pub mod ClosedBlocks
 pub mod LabelLinks
 pub mod Entries
+pub mod EntryPlaces

@@ -10,7 +10,7 @@ ghost use Rattle.wasm_spec_side_tables.specs.Laws.{TablesAreRight};
 
 pub use counted::Counted;
 pub use entry::{Entry, OpenBlock, Place};
-pub use places::{label_of, make_entry, narrow, narrow_offset, resolve};
+pub use places::{label_of, make_dropping_entry, make_entry, narrow_offset};
 
 /// The table that is made in one pass is the side table of the definition.
 #[tactic(auto, using(crate::proofs::Entries::tables_are_right))]

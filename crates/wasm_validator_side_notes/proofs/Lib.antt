@@ -1,9 +1,9 @@
 pub use Rattle.wasm_spec_side_tables.proofs as WasmSpecSideTables
 pub use Rattle.wasm_validator_func.proofs.WasmTypingValidator as WasmTypingValidator
 pub use Rattle.wasm_validator_func.proofs as WasmValidatorFunc
+pub mod OpenedBlocks
 pub mod BranchNotes
 pub mod Opcodes
-pub mod EntryPlaces
 pub mod NextInstructions
 pub mod FirstBytes
 pub mod ToldBytes

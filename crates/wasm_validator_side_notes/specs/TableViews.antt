@@ -1,5 +1,5 @@
 -- What contracts see of a side table while it is made.
-use Rattle.std.specs.Prelude.{ℕ, List, ◌++◌, length, Option, Some}
+use Rattle.std.specs.Prelude.{ℕ, ◌+◌, Bool, List, ◌∷◌, ◌++◌, length, Option, Some}
 use Rattle.wasm_spec_rules.specs.Contexts.{Context}
 use Rattle.wasm_spec_rules.specs.Attempts.{◌>>=◌}
 use Rattle.wasm_readers_types.specs.WasmReadersValues.declared.indices.UnpackedIndex.{UnpackedIndex}
@@ -14,6 +14,7 @@ use Rattle.wasm_validator_func.specs.WasmTypingValidator.BodyTyping.{typed_state
 use Rattle.wasm_validator_func.specs.WasmTypingValidator.TypedInstructions.{within}
 use Rattle.wasm_validator_func.specs.WasmTypingValidator.declared.validator.OperatorValidator.{OperatorValidator}
 use Rattle.wasm_spec_side_tables.specs.declared.entry.Entry.{Entry}
+use Rattle.wasm_spec_side_tables.specs.declared.entry.OpenBlock.{OpenBlock}
 use Rattle.wasm_spec_side_tables.specs.declared.entry.Place.{Place}
 use Rattle.wasm_spec_side_tables.specs.SideTables.{Placed, Branch, Nesting}
 use Rattle.wasm_spec_side_tables.specs.OnePassTables.{Built, nested, planned, planned_each, noted}
@@ -36,6 +37,14 @@ place_in behind T = record { offset = behind; next = length T.entries }
 -- the table once a block opened, turned or closed
 abbrev pub nested_in : Nesting → ℕ → Built → Option Built
 nested_in k behind T = nested k (place_in behind T) T.nest >>= λ N. Some (record { entries = T.entries; nest = N })
+
+-- a block whose second place has the number behind that of the first
+abbrev pub block_by : Bool → ℕ → OpenBlock
+block_by is_loop label = record { label = label; other = label + 1; is_loop = is_loop }
+
+-- the table with an open block more
+abbrev pub with_block : Built → OpenBlock → Built
+with_block T o = record { entries = T.entries; nest = record { places = T.nest.places; open_blocks = o ∷ T.nest.open_blocks } }
 
 module _ {A : Type 0} (C : Context UnpackedIndex) (v : OperatorValidator A) where
   -- the entry of one branch, with the number of its place

@@ -1,55 +1,77 @@
 //! Blocks that open, turn and close.
 
-ghost use Rattle.std.specs.Prelude.{◌≡◌, if◌then◌else◌, IfSome, OnOk, Some};
+ghost use Rattle.std.specs.Prelude.{◌≡◌, ◌+◌, length, if◌then◌else◌, true, OnOk, Some};
 ghost use Rattle.wasm_spec_side_tables.specs.SideTables.{opens, opens_loop, turns, closes};
-ghost use Rattle.wasm_validator_side_notes.specs.TableViews.{shown, place_in, nested_in};
+ghost use Rattle.wasm_validator_side_notes.specs.TableViews.{shown, place_in, nested_in, block_by, with_block};
 
 use crate::table::SideTable;
 use std::alloc::{AllocError, Allocator};
-use wasm_spec_side_tables::{OpenBlock, Place, narrow};
+use wasm_spec_side_tables::{OpenBlock, Place};
 
 impl<A: Allocator> SideTable<A> {
     /// The place behind an instruction.
     #[inline(always)]
-    fn place_behind(&self, behind: u32) -> Option<Place>
-        ensures { IfSome result (λ p. p ≡ place_in behind (shown self.now)) }
+    fn place_behind(&self, behind: u32) -> Place
+        ensures { result ≡ place_in behind (shown self.now) }
     {
-        let next = narrow(self.entries.len())?;
-        Some(Place {
+        Place {
             offset: behind,
-            next,
-        })
+            next: self.entries.number(),
+        }
+    }
+
+    /// A block opens whose two places are there already, the first with this number. Says no where
+    /// memory is refused.
+    #[inline(always)]
+    #[tactic(auto, using(crate::proofs::OpenedBlocks::opening))]
+    fn push_block(&mut self, is_loop: bool, label: u32) -> bool
+        requires { label + 2 ≡ length self.old.places }
+        ensures pushed { result ≡ true → shown self.new
+            ≡ with_block (shown self.old) (block_by is_loop label) }
+        ensures operands { result ≡ true → self.new.operands ≡ self.old.operands }
+    {
+        let block = OpenBlock {
+            label,
+            other: self.places.number() - 1,
+            is_loop,
+        };
+        self.blocks.push(block).is_ok()
     }
 
     /// A block opens behind this offset.
-    #[inline(always)]
+    #[inline(never)]
+    #[tactic(auto, using(crate::proofs::OpenedBlocks::opening))]
     pub(crate) fn open_block(&mut self, is_loop: bool, behind: u32) -> Result<(), AllocError>
         ensures nested { OnOk result (nested_in (if is_loop then opens_loop else opens) behind (shown self.old)
             ≡ Some (shown self.new)) }
         ensures operands { OnOk result (self.new.operands ≡ self.old.operands) }
     {
-        let Some(place) = self.place_behind(behind) else {
-            return Err(AllocError);
-        };
-        let Some(label) = narrow(self.places.len()) else {
-            return Err(AllocError);
-        };
-        let Some(other) = label.checked_add(1) else {
-            return Err(AllocError);
-        };
-        let block = OpenBlock {
-            label,
-            other,
-            is_loop,
-        };
+        let label = self.places.number();
+        let place = self.place_behind(behind);
         match self.places.push_twice(place) {
             Ok(()) => {}
             Err(error) => return Err(error),
         }
-        match self.blocks.push(block) {
-            Ok(()) => Ok(()),
-            Err(_) => Err(AllocError),
+        if self.push_block(is_loop, label) {
+            Ok(())
+        } else {
+            Err(AllocError)
         }
+    }
+
+    /// The same, at once where places for it are there already. Says no where memory is refused.
+    #[inline(always)]
+    #[tactic(auto, using(crate::proofs::OpenedBlocks::opening))]
+    pub(crate) fn open_at_once(&mut self, is_loop: bool, behind: u32) -> bool
+        ensures { result ≡ true → nested_in (if is_loop then opens_loop else opens) behind
+            (shown self.old) ≡ Some (shown self.new) }
+    {
+        let label = self.places.number();
+        let place = self.place_behind(behind);
+        if self.places.put_twice(place) {
+            return self.push_block(is_loop, label);
+        }
+        self.open_block(is_loop, behind).is_ok()
     }
 
     /// A block turns to its `else`, or to a `catch`, behind this offset.
@@ -57,9 +79,7 @@ impl<A: Allocator> SideTable<A> {
         ensures nested { OnOk result (nested_in turns behind (shown self.old) ≡ Some (shown self.new)) }
         ensures operands { OnOk result (self.new.operands ≡ self.old.operands) }
     {
-        let Some(place) = self.place_behind(behind) else {
-            return Err(AllocError);
-        };
+        let place = self.place_behind(behind);
         let Some(block) = self.blocks.pop() else {
             return Err(AllocError);
         };
@@ -84,15 +104,13 @@ impl<A: Allocator> SideTable<A> {
         ensures nested { OnOk result (nested_in closes behind (shown self.old) ≡ Some (shown self.new)) }
         ensures operands { OnOk result (self.new.operands ≡ self.old.operands) }
     {
-        let Some(place) = self.place_behind(behind) else {
-            return Err(AllocError);
-        };
+        let place = self.place_behind(behind);
         let Some(block) = self.blocks.pop() else {
             return Err(AllocError);
         };
         if !block.is_loop {
-            self.places.set(block.label as usize, place);
-            self.places.set(block.other as usize, place);
+            self.places
+                .set_both(block.label as usize, block.other as usize, place);
         }
         Ok(())
     }

@@ -14,7 +14,7 @@ ghost use Rattle.wasm_validator_side_notes.specs.TableViews.{shown, planned_one,
 use crate::table::SideTable;
 use std::alloc::{AllocError, Allocator};
 use wasm_operators::{BlockType, BrTable, Catch, Listed, TryTable};
-use wasm_spec_side_tables::{Entry, label_of, make_entry, narrow};
+use wasm_spec_side_tables::{Entry, label_of, make_entry};
 use wasm_validator_func::{FuncValidator, block_arity};
 use wasm_validator_resources::WasmModuleResources;
 
@@ -86,7 +86,7 @@ impl<A: Allocator> SideTable<A> {
             (shown self.now) ≡ Some e) }
     {
         let (takes, _) = block_arity(validator.resources(), ty)?;
-        let number = narrow(self.places.len())?.checked_add(1)?;
+        let number = self.places.number().checked_add(1)?;
         make_entry(at, number, takes, 0)
     }
 

@@ -11,7 +11,7 @@ ghost use Rattle.wasm_validator_side_notes.specs.OperatorNotes.{IsBranchedTo, Le
 use crate::table::SideTable;
 use std::alloc::Allocator;
 use wasm_readers::BinaryReader;
-use wasm_spec_side_tables::{Entry, make_entry, narrow, narrow_offset};
+use wasm_spec_side_tables::{Entry, make_dropping_entry, make_entry, narrow_offset};
 use wasm_validator_func::FuncValidator;
 use wasm_validator_func::operator_validator::Told;
 use wasm_validator_resources::WasmModuleResources;
@@ -39,7 +39,7 @@ impl<A: Allocator> SideTable<A> {
         validator: &FuncValidator<T, B>,
         at: u32,
         label: u32,
-        count: usize,
+        count: u32,
     ) -> bool
         ensures { result ≡ true → IsBranchedTo (T.context validator.now.resources)
             (typed_state validator.now.validator) at label count (shown self.old)
@@ -51,7 +51,7 @@ impl<A: Allocator> SideTable<A> {
         let Some((kept, height)) = validator.label_counts(label) else {
             return false;
         };
-        let dropped = count.saturating_sub(kept).saturating_sub(height);
+        let dropped = (count as usize).saturating_sub(kept).saturating_sub(height);
         match make_entry(at, block.label, kept, dropped) {
             Some(entry) => self.add(entry).is_ok(),
             None => false,
@@ -66,7 +66,7 @@ impl<A: Allocator> SideTable<A> {
         validator: &FuncValidator<T, B>,
         at: u32,
         label: u32,
-        count: usize,
+        count: u32,
     ) -> bool
         ensures { result ≡ true → IsBranchedTo (T.context validator.now.resources)
             (typed_state validator.now.validator) at label count (shown self.old)
@@ -74,10 +74,9 @@ impl<A: Allocator> SideTable<A> {
     {
         if let Some(block) = self.blocks.get(label as usize) {
             if let Some(height) = validator.height_of_empty(label) {
-                if let Some(entry) = make_entry(at, block.label, 0, count.saturating_sub(height)) {
-                    if self.entries.put(entry) {
-                        return true;
-                    }
+                let entry = make_dropping_entry(at, block.label, count, height);
+                if self.entries.put(entry) {
+                    return true;
                 }
             }
         }
@@ -86,7 +85,7 @@ impl<A: Allocator> SideTable<A> {
 
     /// Adds the entry of a branch to a label, where so many of the operands were taken that it isn't
     /// given. Says no where memory is refused.
-    #[inline(never)]
+    #[inline(always)]
     #[tactic(auto, using(crate::proofs::ToldNotes::adds))]
     fn add_behind<T: WasmModuleResources, B: Allocator>(
         &mut self,
@@ -94,14 +93,14 @@ impl<A: Allocator> SideTable<A> {
         at: u64,
         label: u32,
         taken: u8,
-        count: usize,
+        count: u32,
     ) -> bool
         ensures { result ≡ true → IsBranchedTo (T.context validator.now.resources)
             (typed_state validator.now.validator) at label (count - taken) (shown self.old)
             (shown self.new) }
     {
         match narrow_offset(at) {
-            Some(at) => self.add_to(validator, at, label, count.saturating_sub(taken as usize)),
+            Some(at) => self.add_to(validator, at, label, count.saturating_sub(taken as u32)),
             None => false,
         }
     }
@@ -115,7 +114,7 @@ impl<A: Allocator> SideTable<A> {
         start: BinaryReader<'a>,
         ahead: BinaryReader<'a>,
         taken: u8,
-        count: usize,
+        count: u32,
     ) -> bool
         requires few { taken ≤ 1 }
         requires told { told_at (rest start) ≡ Some (branch_told taken) }
@@ -134,22 +133,19 @@ impl<A: Allocator> SideTable<A> {
     }
 
     /// A block opens behind this offset. Says no where memory is refused.
-    #[inline(never)]
+    #[inline(always)]
     fn open_behind(&mut self, is_loop: bool, behind: u64) -> bool
         ensures { result ≡ true → nested_in (if is_loop then opens_loop else opens) behind
             (shown self.old) ≡ Some (shown self.new) }
     {
-        let Some(behind) = narrow_offset(behind) else {
-            return false;
-        };
-        match self.open_block(is_loop, behind) {
-            Ok(()) => true,
-            Err(_) => false,
+        match narrow_offset(behind) {
+            Some(behind) => self.open_at_once(is_loop, behind),
+            None => false,
         }
     }
 
     /// A block closes behind this offset. Says no where memory is refused.
-    #[inline(never)]
+    #[inline(always)]
     fn close_behind(&mut self, behind: u64) -> bool
         ensures { result ≡ true → nested_in closes behind (shown self.old)
             ≡ Some (shown self.new) }
@@ -176,10 +172,7 @@ impl<A: Allocator> SideTable<A> {
         let Some(behind) = narrow_offset(behind) else {
             return false;
         };
-        let Some(number) = narrow(self.places.len()) else {
-            return false;
-        };
-        let Some(number) = number.checked_add(1) else {
+        let Some(number) = self.places.number().checked_add(1) else {
             return false;
         };
         let entry = Entry {
@@ -189,14 +182,10 @@ impl<A: Allocator> SideTable<A> {
             kept: 0,
             dropped: 0,
         };
-        match self.add(entry) {
-            Ok(()) => {}
-            Err(_) => return false,
+        if self.entries.put(entry) {
+            return self.open_at_once(false, behind);
         }
-        match self.open_block(false, behind) {
-            Ok(()) => true,
-            Err(_) => false,
-        }
+        self.add(entry).is_ok() && self.open_block(false, behind).is_ok()
     }
 
     /// Notes an `if` without parameters whose step led from the one reader to the other.
@@ -207,7 +196,7 @@ impl<A: Allocator> SideTable<A> {
         validator: &FuncValidator<T, B>,
         start: BinaryReader<'a>,
         ahead: BinaryReader<'a>,
-        count: usize,
+        count: u32,
     ) -> bool
         requires { told_at (rest start) ≡ Some Told.OpensThen }
         ensures { result ≡ true → LeadsOn (T.context validator.now.resources)
@@ -258,7 +247,7 @@ impl<A: Allocator> SideTable<A> {
         told: Told,
         start: BinaryReader<'a>,
         ahead: BinaryReader<'a>,
-        count: usize,
+        count: u32,
     ) -> bool
         requires { told_at (rest start) ≡ Some told }
         ensures { result ≡ true → LeadsOn (T.context validator.now.resources)

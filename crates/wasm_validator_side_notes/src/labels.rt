@@ -11,6 +11,7 @@ ghost use Rattle.wasm_validator_side_notes.specs.TableViews.{shown};
 ghost use Rattle.wasm_validator_side_notes.specs.Tables.{Advances};
 ghost use Rattle.wasm_validator_side_notes.specs.LabelEntries.{AreBranchedTo, IsBranchedByTable};
 
+use crate::branches::count_operands;
 use crate::seldom::Taken;
 use crate::table::SideTable;
 use std::alloc::Allocator;
@@ -29,7 +30,7 @@ impl<A: Allocator> SideTable<A> {
         reader: &mut BinaryReader<'a>,
         many: u32,
         at: u32,
-        count: usize,
+        count: u32,
     ) -> bool
         ensures same { SameInput reader.old reader.new }
         ensures added { result ≡ true → AreBranchedTo (T.context validator.now.resources)
@@ -60,7 +61,7 @@ impl<A: Allocator> SideTable<A> {
         validator: &FuncValidator<T, B>,
         labels: BinaryReader<'a>,
         at: u32,
-        count: usize,
+        count: u32,
     ) -> bool
         ensures { result ≡ true → IsBranchedByTable (T.context validator.now.resources)
             (typed_state validator.now.validator) at (count - 1) (rest labels.entry)
@@ -116,7 +117,9 @@ impl<A: Allocator> SideTable<A> {
         if opcode != 0x0e {
             return Taken::No;
         }
-        let count = validator.len_operands();
+        let Some(count) = count_operands(validator) else {
+            return Taken::No;
+        };
         match validator.other_op(reader) {
             Ok(()) => {}
             Err(_) => return Taken::No,

@@ -7,7 +7,7 @@ ghost use Rattle.wasm_spec_side_tables.specs.OnePassTables.{begun, resolved_each
 
 use std::alloc::{AllocError, Allocator, Global};
 use wasm_readers_errors::Error;
-use wasm_spec_side_tables::{Counted, Entry, OpenBlock, Place, resolve};
+use wasm_spec_side_tables::{Counted, Entry, OpenBlock, Place};
 use wasm_typing_stacks::Stack;
 
 /// A side table, and the memory in which the next one is made.
@@ -147,7 +147,6 @@ impl<A: Allocator> SideTable<A> {
     }
 
     /// Puts the places into the entries, where all blocks are closed, and says whether that was done.
-    #[tactic(auto, using(crate::proofs::EntryPlaces::resolving))]
     pub fn finish(&mut self) -> bool
         ensures resolved { result ≡ true → resolved_each self.old.places self.old.entries
             ≡ Some self.new.entries }
@@ -161,16 +160,7 @@ impl<A: Allocator> SideTable<A> {
         if self.blocks.len() != 0 {
             return false;
         }
-        let mut i = 0usize;
-        'entries: while i < self.entries.len() {
-            let entry = self.entries.as_slice()[i];
-            match resolve(self.places.as_slice(), entry) {
-                Some(resolved) => self.entries.set(i, resolved),
-                None => return false,
-            }
-            i += 1;
-        }
-        true
+        self.entries.resolve(self.places.as_slice())
     }
 
     /// One entry more.

@@ -26,7 +26,7 @@ use Rattle.wasm_validator_side_notes.proofs.NextInstructions.{reaches_more}
 
 module _ {A : Type 0} (C : Context UnpackedIndex) (v w : OperatorValidator A) (old : BinaryReader) (kept : Kept v.stacks w.stacks) where
   -- the table
-  table_more :
+  pub table_more :
       (u : OperatorValidator A) (first new : BinaryReader) (S T U : Built) (high : ℕ)
       → Reaches (world C) (within v C) (typed_state v) S (place_of_next first) (rest first) (typed_state w) T high (place_of_next old) (rest old)
       → Advances (world C) (within w C) (typed_state w) T (place_of_next old) (rest old) (typed_state u) U (place_of_next new) (rest new)
@@ -36,15 +36,13 @@ module _ {A : Type 0} (C : Context UnpackedIndex) (v w : OperatorValidator A) (o
       subst (λ (B : Surroundings UnpackedIndex). Advances (world C) B (typed_state w) T (place_of_next old) (rest old) (typed_state u) U (place_of_next new) (rest new)) (kept_around v.stacks w.stacks C kept) advances in
       reaches_more (world C) (within v C) (typed_state v) (typed_state w) (typed_state u) S T U (place_of_next first) high (place_of_next old) (place_of_next new) (rest first) (rest old) (rest new) reaches step
 
-  -- by a height that counts its operands
-  pub table_counted :
-      (u : OperatorValidator A) (first new : BinaryReader) (S T U : Built) (high count next : ℕ) → count ≡ length (typed_state u).operands → next ≡ max high count
-      → Reaches (world C) (within v C) (typed_state v) S (place_of_next first) (rest first) (typed_state w) T high (place_of_next old) (rest old)
-      → Advances (world C) (within w C) (typed_state w) T (place_of_next old) (rest old) (typed_state u) U (place_of_next new) (rest new)
-      → Reaches (world C) (within v C) (typed_state v) S (place_of_next first) (rest first) (typed_state u) U next (place_of_next new) (rest new)
-  table_counted u first new S T U high count next many e reaches advances =
-      subst (λ (n : ℕ). Reaches (world C) (within v C) (typed_state v) S (place_of_next first) (rest first) (typed_state u) U n (place_of_next new) (rest new)) (sym (e ∙ ap (λ (n : ℕ). max high n) many))
-      (table_more u first new S T U high reaches advances)
+  -- by the height once its operands are counted
+  pub table_raised :
+      (first : BinaryReader) (S T : Built) (high count next : ℕ) → count ≡ length (typed_state w).operands → next ≡ max high count
+      → Reaches (world C) (within v C) (typed_state v) S (place_of_next first) (rest first) (typed_state w) T (max high (length (typed_state w).operands)) (place_of_next old) (rest old)
+      → Reaches (world C) (within v C) (typed_state v) S (place_of_next first) (rest first) (typed_state w) T next (place_of_next old) (rest old)
+  table_raised first S T high count next many e reaches =
+      subst (λ (n : ℕ). Reaches (world C) (within v C) (typed_state v) S (place_of_next first) (rest first) (typed_state w) T n (place_of_next old) (rest old)) (sym (e ∙ ap (λ (n : ℕ). max high n) many)) reaches
 
   module _ (most : ℕ) (all : Option (State UnpackedIndex × List ℕ)) (open_ : is_finished (typed_state w) ≡ false) (so_far : typed_from (world C) (within v C) most (typed_state w) (rest old) ≡ all) where
     -- the instructions

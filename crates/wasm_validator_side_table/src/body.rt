@@ -1,6 +1,6 @@
 //! Whole bodies.
 
-ghost use Rattle.std.specs.Prelude.{◌≡◌, ◌<◌, ◌≤◌, ◌^◌, [], false, true, OnOk, OnErr, IfErr};
+ghost use Rattle.std.specs.Prelude.{◌≡◌, ◌<◌, ◌≤◌, ◌^◌, max, [], false, true, OnOk, OnErr, IfErr};
 ghost use Rattle.wasm_spec_rules.specs.FeatureFlags.{features_of};
 ghost use Rattle.wasm_readers.specs.WasmReadersBytes.Reader.{SameInput, position_in, place_of_next, rest};
 ghost use Rattle.wasm_parser.specs.PayloadViews.{body_of, body_reader};
@@ -112,6 +112,34 @@ fn read_left<'a, T: WasmModuleResources, A: Allocator, B: Allocator>(
     }
 }
 
+/// Notes that there are more operands than ever before. Says no where there are 4,294,967,295 or more.
+#[cold]
+#[inline(never)]
+fn raise_to(height: &mut usize, count: usize) -> bool
+    ensures high { result ≡ true → height.new ≡ count }
+    ensures few { result ≡ true → count < 4_294_967_295 }
+{
+    if 4_294_967_295 <= count {
+        return false;
+    }
+    *height = count;
+    true
+}
+
+/// Notes how many operands there are, if there were never so many. Says no where there are
+/// 4,294,967,295 or more.
+#[inline(always)]
+fn raise(height: &mut usize, count: usize) -> bool
+    ensures high { result ≡ true → height.new ≡ max height.old count }
+    ensures few { result ≡ true → height.old < 4_294_967_295 → height.new < 4_294_967_295 }
+    ensures fits { result ≡ true → height.old < 4_294_967_295 → count < 4_294_967_295 }
+{
+    if *height < count {
+        return raise_to(height, count);
+    }
+    true
+}
+
 /// Notes and validates operators up to the end of the body.
 fn read_all<'a, T: WasmModuleResources, A: Allocator, B: Allocator>(
     table: &mut SideTable<A>,
@@ -137,25 +165,24 @@ fn read_all<'a, T: WasmModuleResources, A: Allocator, B: Allocator>(
     ensures place { IfErr result (StandsIn reader.old) }
 {
     let mut ahead = *reader;
-    let mut count = 0usize;
     let mut height = 0usize;
     'operators: while !validator.is_finished() {
+        let count = validator.len_operands();
+        if !raise(&mut height, count) {
+            return Err(Error::OutOfMemory);
+        }
         let start = ahead;
         let told = validator.told_op(&mut ahead);
         if told.is_quiet() {
-            if !table.note_told(validator, Told::Quiet, start, ahead, count) {
+            if !table.note_told(validator, Told::Quiet, start, ahead, count as u32) {
                 return Err(Error::OutOfMemory);
             }
-            count = validator.len_operands();
-            height = height.max(count);
             continue;
         }
         if told.is_taken() {
-            if !table.note_told(validator, told, start, ahead, count) {
+            if !table.note_told(validator, told, start, ahead, count as u32) {
                 return Err(Error::OutOfMemory);
             }
-            count = validator.len_operands();
-            height = height.max(count);
             continue;
         }
         // The reader itself is not lent, so that it can be kept in registers.
@@ -165,10 +192,8 @@ fn read_all<'a, T: WasmModuleResources, A: Allocator, B: Allocator>(
             Err(error) => return Err(error),
         }
         ahead.go_on_from(&behind);
-        count = validator.len_operands();
-        height = height.max(count);
     }
-    if height >= 4_294_967_295 {
+    if !raise(&mut height, validator.len_operands()) {
         return Err(Error::OutOfMemory);
     }
     table.set_operands(height as u32);

@@ -1,4 +1,4 @@
-use Rattle.std.proofs.Common.{◌≡◌, ◌≤◌, ℕ, false, length}
+use Rattle.std.proofs.Common.{◌≡◌, ◌≤◌, ◌<◌, ℕ, max, false, length}
 use Rattle.wasm_readers.specs.WasmReadersBytes.Reader.{SameInput, position_in, place_of_next, rest}
 use Rattle.wasm_validator_resources.specs.Answers.{world}
 use Rattle.wasm_validator_side_notes.specs.WasmTypingValidator.WasmTypingStacks.BodyStacks.{Kept}
@@ -13,8 +13,8 @@ abbrev pub invariant-operators : goal.invariant-operators
 invariant-operators g l = record {
   reaches : Reaches (world (g.T.WasmModuleResources.context l.initial.validator.resources)) (within l.initial.validator.validator (g.T.WasmModuleResources.context l.initial.validator.resources))
       (typed_state l.initial.validator.validator) (shown l.initial.table) (place_of_next l.initial.ahead) (rest l.initial.ahead)
-      (typed_state l.validator.validator) (shown l.table) l.height (place_of_next l.ahead) (rest l.ahead);
-  counted : length (typed_state l.validator.validator).operands ≡ l.count;
+      (typed_state l.validator.validator) (shown l.table) (max l.height (length (typed_state l.validator.validator).operands)) (place_of_next l.ahead) (rest l.ahead);
+  few : l.height < 4294967295;
   kept : Kept l.initial.validator.validator.stacks l.validator.validator.stacks;
   going : l.validator.validator.failed ≡ false;
   resources : l.validator.resources ≡ l.initial.validator.resources;

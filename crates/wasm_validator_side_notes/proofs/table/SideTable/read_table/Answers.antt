@@ -16,10 +16,10 @@ returns-then-note_labels-clause-advances g c = λ h.
     let w = c.other_op.new.self.validator in
     let T = shown c.args.self.now in
     let V = shown c.note_labels.new.self in
-    let n = c.len_operands-count.result in
+    let n = c.in-Some-count_operands.count in
     let xs = rest c.next_u8.new.self in
     let there : D ≡ C = ap (λ x. g.T.WasmModuleResources.context x) c.in-Ok.ensures.same.0 in
     let code : c.in-Some.opcode ≡ 0x0e = search (rules, tests) in
     let noted : IsBranchedByTable D (typed_state w) c.args.at (n - 1) xs T V = c.if-note_labels.ensures refl in
-    leads_table C v w c.args.reader.now c.other_op.new.reader n T V c.in-Some.opcode c.args.at xs c.in-Ok.ensures.input c.in-Some.ensures.some code c.requires.at (sym c.len_operands-count.ensures)
+    leads_table C v w c.args.reader.now c.other_op.new.reader n T V c.in-Some.opcode c.args.at xs c.in-Ok.ensures.input c.in-Some.ensures.some code c.requires.at (sym c.in-Some-count_operands.ensures)
     (subst (λ (X : Context UnpackedIndex). IsBranchedByTable X (typed_state w) c.args.at (n - 1) xs T V) there noted) c.in-Ok.ensures.took

@@ -1,10 +1,11 @@
 -- Entries that get their places one after another.
 use Rattle.std.proofs.Common.{◌≡◌, refl, sym, ap, ◌∙◌, ℕ, ◌+◌, ◌<◌, ◌≤◌, List, [], ◌∷◌, ◌++◌, length, take, drop, set, get_or, Option, Some, None, arith, length-set}
-use Rattle.std.proofs.lemmas.List.{get_or_default, take_more, take_more_set, drop-set-lt, drop_more, take_all, take-append-drop}
-use Rattle.wasm_spec_rules.specs.Attempts.{◌>>=◌}
+use Rattle.std.proofs.lemmas.List.{take_more, take_more_set, drop-set-lt, drop_more, take_all, take-append-drop, length-take-le, get_or-take}
+use Rattle.wasm_spec_steps.specs.WasmSpecRules.Attempts.{◌>>=◌}
 use Rattle.wasm_spec_side_tables.specs.declared.entry.Entry.{Entry}
 use Rattle.wasm_spec_side_tables.specs.declared.entry.Place.{Place}
 use Rattle.wasm_spec_side_tables.specs.OnePassTables.{resolved, resolved_each}
+use Rattle.wasm_spec_side_tables.proofs.CountedLists.{put_in}
 use Rattle.wasm_spec_side_tables.proofs.Entries.{resolved-append}
 
 -- the first entries have their places, and the others are as they were
@@ -44,17 +45,6 @@ resolves_all ps i old new r h =
     let count = r.count in
     ap (resolved_each ps) (sym (take_all i old (omega arith))) ∙ r.front ∙ ap (λ (zs : List Entry). Some zs) (take_all i new h)
 
--- the same, of the places and the entries as they are seen
-seen_at : (new seen : List Entry) (i : ℕ) (d e : Entry) → i < length new → seen ≡ new → get_or seen i d ≡ get_or new i e
-seen_at new seen i d e h k = ap (λ (zs : List Entry). get_or zs i d) k ∙ get_or_default new i d e h
-
-pub resolves_next :
-    (ps qs vs : List Place) (i : ℕ) (old new seen written : List Entry) (d x : Entry)
-    → Resolves ps i old new → qs ≡ ps → vs ≡ qs → i < length new → seen ≡ new → Some x ≡ resolved vs (get_or seen i d) → written ≡ set new i x → Resolves ps (i + 1) old written
-resolves_next ps qs vs i old new seen written d x r same now h k p w =
-    let e : Entry = get_or seen i d in
-    rw w (resolves_more ps i old new e x r h (seen_at new seen i d e h k) (ap (λ (zs : List Place). resolved zs e) (sym (now ∙ same)) ∙ sym p))
-
 -- an entry that names no place
 abbrev in_front : List Place → List Entry → Option Entry → Option (List Entry)
 in_front ps es o = o >>= λ x. resolved_each ps es >>= λ xs. Some (x ∷ xs)
@@ -67,16 +57,31 @@ none_within : (ps : List Place) (xs : List Entry) (e : Entry) (ys : List Entry) 
 none_within ps [] e ys h = ap (λ (o : Option Entry). in_front ps ys o) h
 none_within ps (x ∷ xs) e ys h = none_behind ps (xs ++ e ∷ ys) (resolved ps x) (none_within ps xs e ys h)
 
-pub resolves_not :
-    (ps qs vs : List Place) (i : ℕ) (old new seen : List Entry) (d : Entry)
-    → Resolves ps i old new → qs ≡ ps → vs ≡ qs → i < length new → seen ≡ new → None ≡ resolved vs (get_or seen i d) → resolved_each ps old ≡ None
-resolves_not ps qs vs i old new seen d r same now h k p =
+pub resolves_not : (ps : List Place) (i : ℕ) (old new : List Entry) (e : Entry) → Resolves ps i old new → i < length new → e ≡ get_or new i e → resolved ps e ≡ None → resolved_each ps old ≡ None
+resolves_not ps i old new e r h g p =
     let count = r.count in
-    let e : Entry = get_or seen i d in
     let there : get_or new i e ∷ drop (i + 1) new ≡ get_or old i e ∷ drop (i + 1) old = sym (drop_more new i e h) ∙ r.rest ∙ drop_more old i e (omega arith) in
-    let here : e ≡ get_or old i e = seen_at new seen i d e h k ∙ cons-head _ _ _ _ there in
+    let here : e ≡ get_or old i e = g ∙ cons-head _ _ _ _ there in
     let split : old ≡ take i old ++ e ∷ drop (i + 1) old =
     sym (take-append-drop i old) ∙ ap (λ (zs : List Entry). take i old ++ zs) (drop_more old i e (omega arith)) ∙ ap (λ (y : Entry). take i old ++ y ∷ drop (i + 1) old) (sym here) in
-    ap (resolved_each ps) split ∙ none_within ps (take i old) e (drop (i + 1) old) (sym (p ∙ ap (λ (zs : List Place). resolved zs e) (now ∙ same)))
+    ap (resolved_each ps) split ∙ none_within ps (take i old) e (drop (i + 1) old) p
 
-pub ruleset resolving = (resolves_none, resolves_next, resolves_all)
+-- the same, of so many entries at the front
+get_front : (n i : ℕ) (es : List Entry) (e : Entry) → i < n → e ≡ get_or es i e → e ≡ get_or (take n es) i e
+get_front n i es e h g = g ∙ sym (get_or-take n es i e h)
+
+pub front_more :
+    (ps : List Place) (n i : ℕ) (old new : List Entry) (e x : Entry)
+    → Resolves ps i (take n old) (take n new) → n ≤ length new → i < n → e ≡ get_or new i e → resolved ps e ≡ Some x → Resolves ps (i + 1) (take n old) (take n (set new i x))
+front_more ps n i old new e x r l h g p =
+    rw (put_in new n i x h) (resolves_more ps i (take n old) (take n new) e x r (rw (length-take-le n new l) h) (get_front n i new e h g) p)
+
+pub front_not :
+    (ps : List Place) (n i : ℕ) (old new : List Entry) (e : Entry)
+    → Resolves ps i (take n old) (take n new) → n ≤ length new → i < n → e ≡ get_or new i e → resolved ps e ≡ None → resolved_each ps (take n old) ≡ None
+front_not ps n i old new e r l h g p = resolves_not ps i (take n old) (take n new) e r (rw (length-take-le n new l) h) (get_front n i new e h g) p
+
+pub front_all : (ps : List Place) (n i : ℕ) (old new : List Entry) → Resolves ps i (take n old) (take n new) → n ≤ length new → n ≤ i → resolved_each ps (take n old) ≡ Some (take n new)
+front_all ps n i old new r l h = resolves_all ps i (take n old) (take n new) r (rw (length-take-le n new l) h)
+
+pub ruleset resolving = (resolves_none, front_all)
