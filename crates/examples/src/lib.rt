@@ -20,11 +20,16 @@ pub fn run<R: Print + AllocGlobal>(rt: &R) -> io::Result<()> {
     interpreter::run(rt)?;
     linker::run(rt)?;
     proved_linker::run(rt)?;
-    inspection::run(rt)?;
-    inspection::print_types(rt)?;
-    heights::run(rt)?;
-    heights::print_refused_body(rt)?;
+    run_inspections(rt)?;
     own_look_ups::run(rt)?;
     interning::run(rt)?;
     dump::run(rt)
+}
+
+/// Runs those that look into modules and bodies.
+fn run_inspections<R: Print + AllocGlobal>(rt: &R) -> io::Result<()> {
+    inspection::run(rt)?;
+    inspection::print_types(rt)?;
+    heights::run(rt)?;
+    heights::print_refused_body(rt)
 }

@@ -76,14 +76,17 @@ fn validate_in_module<A: Allocator + Copy>(
     }
 }
 
+/// Prints whether a body is valid.
+fn print_verdict<R: Print + AllocGlobal>(rt: &R, bytes: &[u8]) -> io::Result<()> {
+    match validate_in_module(rt.alloc(), bytes) {
+        Ok(Some(())) => println!(rt; "the body is valid"),
+        Ok(None) => println!(rt; "the module has too many types"),
+        Err(error) => println!(rt; "the body is refused at byte {}: {error}", error.offset()),
+    }
+}
+
 /// Prints whether each body is valid.
 pub fn run<R: Print + AllocGlobal>(rt: &R) -> io::Result<()> {
-    for bytes in [DOUBLE, UNBALANCED] {
-        match validate_in_module(rt.alloc(), bytes) {
-            Ok(Some(())) => println!(rt; "the body is valid")?,
-            Ok(None) => println!(rt; "the module has too many types")?,
-            Err(error) => println!(rt; "the body is refused at byte {}: {error}", error.offset())?,
-        }
-    }
-    Ok(())
+    print_verdict(rt, DOUBLE)?;
+    print_verdict(rt, UNBALANCED)
 }

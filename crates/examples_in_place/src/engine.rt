@@ -10,7 +10,7 @@
 ghost use Rattle.std.specs.Prelude.{◌≡◌, ◌++◌, ◌∷◌, [], IfOk, OnOk};
 
 use crate::loader::{Code, Loaded};
-use crate::operators::{compute, load_number, store_number};
+use crate::operators::{access, compute};
 use std::alloc::{AllocError, Allocator};
 use wasm_operators::{
     CallOperator, ConstantOperator, ControlOperator, Operator, ParametricOperator, VariableOperator,
@@ -116,18 +116,30 @@ fn branch<A: Allocator>(
     store.keep(entry.kept as usize, entry.dropped as usize)
 }
 
-/// Takes a branch where the condition holds, and else passes its entry.
-fn branch_if<A: Allocator>(
+/// Takes a condition, and the branch where it is as wanted; else passes its entry.
+fn branch_where<A: Allocator>(
     store: &mut Store<A>,
     call: &mut Call,
     entries: &[Entry],
-    taken: bool,
+    wanted: bool,
 ) -> Result<(), Stopped> {
-    if taken {
+    let condition = store.pop()?;
+    if (condition != 0) == wanted {
         return branch(store, call, entries, 0);
     }
     call.entry = call.entry.saturating_add(1);
     Ok(())
+}
+
+/// Takes an index, and the branch to the label that it chooses of so many besides the default.
+fn branch_by_index<A: Allocator>(
+    store: &mut Store<A>,
+    call: &mut Call,
+    entries: &[Entry],
+    labels: u64,
+) -> Result<(), Stopped> {
+    let index = store.pop()?.min(labels);
+    branch(store, call, entries, index as usize)
 }
 
 /// How many labels a `br_table` has besides the default.
@@ -138,37 +150,41 @@ fn count_labels(op: &ControlOperator<'_>) -> u64 {
     }
 }
 
-/// A control operator. What closes a block has nothing to do.
+/// A branch, or an operator on blocks alone, which has nothing to do.
+fn jump<A: Allocator>(
+    store: &mut Store<A>,
+    call: &mut Call,
+    entries: &[Entry],
+    op: &ControlOperator<'_>,
+) -> Result<(), Stopped> {
+    match op {
+        ControlOperator::Br { relative_depth: _ } | ControlOperator::Else => {
+            branch(store, call, entries, 0)
+        }
+        ControlOperator::BrIf { relative_depth: _ } => branch_where(store, call, entries, true),
+        ControlOperator::If { blockty: _ } => branch_where(store, call, entries, false),
+        ControlOperator::BrTable { targets: _ } => {
+            branch_by_index(store, call, entries, count_labels(op))
+        }
+        ControlOperator::Nop
+        | ControlOperator::Block { blockty: _ }
+        | ControlOperator::Loop { blockty: _ }
+        | ControlOperator::End => Ok(()),
+        _ => Err(Stopped::Unknown),
+    }
+}
+
+/// A control operator. Behind the last one of the code the call returns.
 fn control<A: Allocator>(
     store: &mut Store<A>,
     call: &mut Call,
     code: &Code<'_, A>,
     op: &ControlOperator<'_>,
 ) -> Result<Next, Stopped> {
-    let entries = code.entries.as_slice();
     match op {
-        ControlOperator::Br { relative_depth: _ } | ControlOperator::Else => {
-            branch(store, call, entries, 0)?
-        }
-        ControlOperator::BrIf { relative_depth: _ } => {
-            let condition = store.pop()?;
-            branch_if(store, call, entries, condition != 0)?
-        }
-        ControlOperator::If { blockty: _ } => {
-            let condition = store.pop()?;
-            branch_if(store, call, entries, condition == 0)?
-        }
-        ControlOperator::BrTable { targets: _ } => {
-            let index = store.pop()?.min(count_labels(op));
-            branch(store, call, entries, index as usize)?
-        }
         ControlOperator::Return => return Ok(Next::Return),
         ControlOperator::Unreachable => return Err(Stopped::Trapped),
-        ControlOperator::Nop
-        | ControlOperator::Block { blockty: _ }
-        | ControlOperator::Loop { blockty: _ }
-        | ControlOperator::End => {}
-        _ => return Err(Stopped::Unknown),
+        _ => jump(store, call, code.entries.as_slice(), op)?,
     }
     if call.position == code.bytes.len() {
         return Ok(Next::Return);
@@ -216,6 +232,37 @@ fn local<A: Allocator>(
     }
 }
 
+/// A constant.
+fn constant<A: Allocator>(store: &mut Store<A>, op: &ConstantOperator) -> Result<(), Stopped> {
+    match op {
+        ConstantOperator::I32Const { value } => store.push(value.cast_unsigned() as u64),
+        ConstantOperator::I64Const { value } => store.push(value.cast_unsigned()),
+        _ => Err(Stopped::Unknown),
+    }
+}
+
+/// Takes a value for nothing.
+fn drop_value<A: Allocator>(store: &mut Store<A>) -> Result<(), Stopped> {
+    store.pop()?;
+    Ok(())
+}
+
+/// An operator that only takes and gives values.
+fn calculate<A: Allocator>(
+    store: &mut Store<A>,
+    base: usize,
+    op: &Operator<'_>,
+) -> Result<(), Stopped> {
+    match op {
+        Operator::Parametric(ParametricOperator::Drop) => drop_value(store),
+        Operator::Variable(op) => local(store, base, op),
+        Operator::Constant(op) => constant(store, op),
+        Operator::Numeric(op) => compute(store, *op),
+        Operator::Memory(op, arg) => access(store, *op, arg.offset),
+        _ => Err(Stopped::Unknown),
+    }
+}
+
 /// One operator.
 fn execute<A: Allocator>(
     store: &mut Store<A>,
@@ -224,29 +271,15 @@ fn execute<A: Allocator>(
     op: &Operator<'_>,
 ) -> Result<Next, Stopped> {
     match op {
-        Operator::Control(op) => return control(store, call, code, op),
+        Operator::Control(op) => control(store, call, code, op),
         Operator::Call(CallOperator::Call { function_index }) => {
-            return Ok(Next::Call(*function_index as usize));
+            Ok(Next::Call(*function_index as usize))
         }
-        Operator::Parametric(ParametricOperator::Drop) => {
-            store.pop()?;
+        other => {
+            calculate(store, call.base, other)?;
+            Ok(Next::Operator)
         }
-        Operator::Variable(op) => local(store, call.base, op)?,
-        Operator::Constant(ConstantOperator::I32Const { value }) => {
-            store.push(value.cast_unsigned() as u64)?
-        }
-        Operator::Constant(ConstantOperator::I64Const { value }) => {
-            store.push(value.cast_unsigned())?
-        }
-        Operator::Numeric(op) => compute(store, *op)?,
-        Operator::Memory(op, arg) => {
-            if !load_number(store, *op, arg.offset)? {
-                store_number(store, *op, arg.offset)?
-            }
-        }
-        _ => return Err(Stopped::Unknown),
     }
-    Ok(Next::Operator)
 }
 
 /// The next operator of a call, read where it stands.
@@ -298,6 +331,44 @@ fn leave<A: Allocator>(
     store.keep(code.results, above.saturating_sub(code.results))
 }
 
+/// Calls this function in the place of the call that goes on behind it.
+fn call_function<'a, A: Allocator>(
+    loaded: &Loaded<'a, A>,
+    store: &mut Store<A>,
+    calls: &mut Vec<Call, A>,
+    call: &mut Call,
+    function: usize,
+) -> Result<(), Stopped> {
+    let code = loaded.code(function)?;
+    if calls.push(*call).is_err() {
+        return Err(Stopped::OutOfMemory);
+    }
+    *call = enter(store, function, code)?;
+    Ok(())
+}
+
+/// Takes a step of the innermost call. False where the outermost one has ended.
+fn go_on<'a, A: Allocator>(
+    loaded: &Loaded<'a, A>,
+    store: &mut Store<A>,
+    calls: &mut Vec<Call, A>,
+    call: &mut Call,
+) -> Result<bool, Stopped> {
+    let code = loaded.code(call.function)?;
+    match step(store, call, code)? {
+        Next::Operator => {}
+        Next::Call(function) => call_function(loaded, store, calls, call, function)?,
+        Next::Return => {
+            leave(store, call, code)?;
+            match calls.pop() {
+                Some(caller) => *call = caller,
+                None => return Ok(false),
+            }
+        }
+    }
+    Ok(true)
+}
+
 /// Runs a function whose parameters are at the top, in at most so many steps. Its results are at the
 /// top then.
 pub fn run_function<A: Allocator + Copy>(
@@ -307,26 +378,11 @@ pub fn run_function<A: Allocator + Copy>(
     function: usize,
     steps: u64,
 ) -> Result<(), Stopped> {
-    let mut calls: Vec<Call, A> = Vec::new(alloc);
     let mut call = enter(store, function, loaded.code(function)?)?;
+    let mut calls = Vec::new(alloc);
     for _ in 0..steps {
-        let code = loaded.code(call.function)?;
-        match step(store, &mut call, code)? {
-            Next::Operator => {}
-            Next::Call(callee) => {
-                match calls.push(call) {
-                    Ok(()) => {}
-                    Err(_) => return Err(Stopped::OutOfMemory),
-                }
-                call = enter(store, callee, loaded.code(callee)?)?;
-            }
-            Next::Return => {
-                leave(store, &call, code)?;
-                match calls.pop() {
-                    Some(caller) => call = caller,
-                    None => return Ok(()),
-                }
-            }
+        if !go_on(loaded, store, &mut calls, &mut call)? {
+            return Ok(());
         }
     }
     Err(Stopped::OutOfSteps)

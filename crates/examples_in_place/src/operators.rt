@@ -12,26 +12,34 @@ fn of_test(holds: bool) -> u64 {
     if holds { 1 } else { 0 }
 }
 
-/// An operator on one number or on two. A number of 32 bits is below 2³².
+/// What an operator on two numbers gives, if this interpreter has it. A number of 32 bits is below 2³².
+fn result_of(op: NumericOperator, a: u64, b: u64) -> Option<u64> {
+    match op {
+        NumericOperator::I32Eq | NumericOperator::I64Eq => Some(of_test(a == b)),
+        NumericOperator::I32Ne | NumericOperator::I64Ne => Some(of_test(a != b)),
+        NumericOperator::I32LtU | NumericOperator::I64LtU => Some(of_test(a < b)),
+        NumericOperator::I32GeU | NumericOperator::I64GeU => Some(of_test(a >= b)),
+        NumericOperator::I32Add => Some(a.wrapping_add(b) % WORDS),
+        NumericOperator::I32Sub => Some(a.wrapping_sub(b) % WORDS),
+        NumericOperator::I32Mul => Some(a.wrapping_mul(b) % WORDS),
+        NumericOperator::I64Add => Some(a.wrapping_add(b)),
+        NumericOperator::I64Sub => Some(a.wrapping_sub(b)),
+        NumericOperator::I64Mul => Some(a.wrapping_mul(b)),
+        _ => None,
+    }
+}
+
+/// An operator on one number or on two.
 pub fn compute<A: Allocator>(store: &mut Store<A>, op: NumericOperator) -> Result<(), Stopped> {
     let b = store.pop()?;
     if matches!(&op, NumericOperator::I32Eqz | NumericOperator::I64Eqz) {
         return store.push(of_test(b == 0));
     }
     let a = store.pop()?;
-    store.push(match op {
-        NumericOperator::I32Eq | NumericOperator::I64Eq => of_test(a == b),
-        NumericOperator::I32Ne | NumericOperator::I64Ne => of_test(a != b),
-        NumericOperator::I32LtU | NumericOperator::I64LtU => of_test(a < b),
-        NumericOperator::I32GeU | NumericOperator::I64GeU => of_test(a >= b),
-        NumericOperator::I32Add => a.wrapping_add(b) % WORDS,
-        NumericOperator::I32Sub => a.wrapping_sub(b) % WORDS,
-        NumericOperator::I32Mul => a.wrapping_mul(b) % WORDS,
-        NumericOperator::I64Add => a.wrapping_add(b),
-        NumericOperator::I64Sub => a.wrapping_sub(b),
-        NumericOperator::I64Mul => a.wrapping_mul(b),
-        _ => return Err(Stopped::Unknown),
-    })
+    match result_of(op, a, b) {
+        Some(result) => store.push(result),
+        None => Err(Stopped::Unknown),
+    }
 }
 
 /// Where an access begins to so many bytes behind an address, if they are in the memory.
@@ -48,7 +56,7 @@ fn place<A: Allocator>(
     Ok(start as usize)
 }
 
-/// How many bytes a load or a store takes, if it is one that this interpreter has.
+/// How many bytes a load or a store takes, if this interpreter has it, and whether it is a load.
 fn width(op: MemoryOperator) -> Option<(usize, bool)> {
     match op {
         MemoryOperator::I32Load8U => Some((1, true)),
@@ -61,46 +69,60 @@ fn width(op: MemoryOperator) -> Option<(usize, bool)> {
     }
 }
 
-/// A load, the lowest byte first. False where the operator isn't one.
-pub fn load_number<A: Allocator>(
-    store: &mut Store<A>,
-    op: MemoryOperator,
-    offset: u64,
-) -> Result<bool, Stopped> {
-    let Some((size, is_load)) = width(op) else {
-        return Err(Stopped::Unknown);
-    };
-    if !is_load {
-        return Ok(false);
-    }
-    let address = store.pop()?;
-    let start = place(store, address, offset, size)?;
+/// The number in so many bytes, the lowest first.
+fn number_at<A: Allocator>(store: &Store<A>, start: usize, size: usize) -> u64 {
     let mut value = 0u64;
     for i in (0..size).rev() {
         let byte = *store.memory.get(start.saturating_add(i)).unwrap_or(&0);
         value = value.wrapping_mul(256).wrapping_add(byte as u64);
     }
-    store.push(value)?;
-    Ok(true)
+    value
 }
 
-/// A store, the lowest byte first.
-pub fn store_number<A: Allocator>(
+/// Writes the lowest bytes of a number, so many, the lowest first.
+fn write_number<A: Allocator>(store: &mut Store<A>, start: usize, size: usize, value: u64) {
+    let mut left = value;
+    for i in 0..size {
+        if let Some(byte) = store.memory.get_mut(start.saturating_add(i)) {
+            *byte = (left % 256) as u8;
+        }
+        left /= 256;
+    }
+}
+
+/// A load of so many bytes.
+fn load_number<A: Allocator>(
+    store: &mut Store<A>,
+    size: usize,
+    offset: u64,
+) -> Result<(), Stopped> {
+    let address = store.pop()?;
+    let start = place(store, address, offset, size)?;
+    store.push(number_at(store, start, size))
+}
+
+/// A store of so many bytes.
+fn store_number<A: Allocator>(
+    store: &mut Store<A>,
+    size: usize,
+    offset: u64,
+) -> Result<(), Stopped> {
+    let value = store.pop()?;
+    let address = store.pop()?;
+    let start = place(store, address, offset, size)?;
+    write_number(store, start, size, value);
+    Ok(())
+}
+
+/// A load or a store.
+pub fn access<A: Allocator>(
     store: &mut Store<A>,
     op: MemoryOperator,
     offset: u64,
 ) -> Result<(), Stopped> {
-    let Some((size, _)) = width(op) else {
-        return Err(Stopped::Unknown);
-    };
-    let mut value = store.pop()?;
-    let address = store.pop()?;
-    let start = place(store, address, offset, size)?;
-    for i in 0..size {
-        if let Some(byte) = store.memory.get_mut(start.saturating_add(i)) {
-            *byte = (value % 256) as u8;
-        }
-        value /= 256;
+    match width(op) {
+        Some((size, true)) => load_number(store, size, offset),
+        Some((size, false)) => store_number(store, size, offset),
+        None => Err(Stopped::Unknown),
     }
-    Ok(())
 }

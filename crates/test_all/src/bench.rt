@@ -169,17 +169,27 @@ pub fn time_table<R: Env + Files + Clock + AllocGlobal, W: Write, E: Write>(
         return Ok(());
     }
     let body = read_body(rt, &paths)?;
-    let start = Instant::now(rt)?;
-    let entries = check(rt.alloc(), &body, true);
-    let both = start.elapsed(rt)?;
+    let (entries, both) = time_check(rt, &body, true)?;
     match entries {
-        Ok(Some(count)) => writeln!(out, "{count} entries")?,
-        _ => writeln!(out, "not valid")?,
+        Some(count) => writeln!(out, "{count} entries")?,
+        None => writeln!(out, "not valid")?,
     }
+    let (_verdict, alone) = time_check(rt, &body, false)?;
+    writeln!(err, "{both} ns, {alone} ns alone")
+}
+
+/// What the check of this body gives where it is valid, and the nanoseconds that it takes.
+fn time_check<R: Clock + AllocGlobal>(
+    rt: &R,
+    body: &[u8],
+    makes_table: bool,
+) -> io::Result<(Option<usize>, u128)> {
     let start = Instant::now(rt)?;
-    let _verdict = check(rt.alloc(), &body, false);
-    let alone = start.elapsed(rt)?;
-    writeln!(err, "{} ns, {} ns alone", both.as_nanos(), alone.as_nanos())
+    let found = match check(rt.alloc(), body, makes_table) {
+        Ok(found) => found,
+        Err(_) => None,
+    };
+    Ok((found, start.elapsed(rt)?.as_nanos()))
 }
 
 /// Validates this body, and prints how many operators it has, whether it is valid, and how long that
@@ -190,13 +200,9 @@ fn print_time<R: Clock + AllocGlobal, W: Write, E: Write>(
     out: &mut W,
     err: &mut E,
 ) -> io::Result<()> {
-    let start = Instant::now(rt)?;
-    let verdict = match check(rt.alloc(), body, false) {
-        Ok(Some(_)) => "ok",
-        _ => "not valid",
-    };
-    let time = start.elapsed(rt)?;
+    let (found, time) = time_check(rt, body, false)?;
+    let verdict = if found.is_some() { "ok" } else { "not valid" };
     let count = count_operators(body);
     writeln!(out, "{count} operators, {verdict}")?;
-    writeln!(err, "{} ns", time.as_nanos())
+    writeln!(err, "{time} ns")
 }

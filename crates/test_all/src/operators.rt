@@ -32,10 +32,7 @@ fn push_operator(text: &mut String, bytes: &mut Vec<u8>, is_listed: bool) -> Res
     match first(bytes.as_slice()) {
         Some(_) if is_listed => text.push_str(LISTED)?,
         Some(op) => write!(text, "{op:?}")?,
-        None => {
-            text.push_str("refused")?;
-            return Ok(());
-        }
+        None => return Ok(text.push_str("refused")?),
     }
     let size = bytes.len();
     bytes.push(0xff)?;

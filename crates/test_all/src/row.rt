@@ -6,6 +6,7 @@ use rows_files::{
     Difference, Judge, NOT, Trouble, name_of, parse_digits, parse_features, take_part,
 };
 use std::alloc::{AllocError, Global};
+use std::fmt::Display;
 use wasm_parser::FunctionBody;
 use wasm_readers::{BinaryReader, Error};
 use wasm_readers_errors::WasmFeatures;
@@ -138,30 +139,33 @@ pub fn validate(
 /// Adds `ok`, or `refused` with as much of the offset, the message and the missing feature as the
 /// named answer has.
 fn push_answer(text: &mut String, answer: &Result<(), Error>, named: &str) -> Result<(), Trouble> {
-    let error = match answer {
-        Ok(()) => {
-            text.push_str("ok")?;
-            return Ok(());
-        }
-        Err(error) => error,
-    };
-    if error.is_out_of_memory() {
-        return Err(Trouble::OutOfMemory);
+    match answer {
+        Ok(()) => Ok(text.push_str("ok")?),
+        Err(error) if error.is_out_of_memory() => Err(Trouble::OutOfMemory),
+        Err(error) => push_refusal(text, error, named),
     }
+}
+
+/// Adds `refused`, and as much of the refusal as the named answer has.
+fn push_refusal(text: &mut String, error: &Error, named: &str) -> Result<(), Trouble> {
     text.push_str("refused")?;
     if named == "refused" {
         return Ok(());
     }
-    text.push_str(" ")?;
-    text.write(error.offset())?;
+    push_behind(text, error.offset())?;
     if named != text.as_str() {
-        text.push_str(" ")?;
-        text.write(error)?;
+        push_behind(text, error)?;
     }
     if named.contains(MISSING) {
         push_missing(text, error)?;
     }
     Ok(())
+}
+
+/// Adds a blank and this.
+fn push_behind<D: Display + Drop>(text: &mut String, value: D) -> Result<(), AllocError> {
+    text.push_str(" ")?;
+    text.write(value)
 }
 
 /// Adds the feature that would lift the refusal.

@@ -115,40 +115,74 @@ fn extending(alloc: Global) -> Result<SubType, Trouble> {
     structure(alloc, true, supertypes, &fields)
 }
 
-/// The types from 0 to 7.
-fn push_first(alloc: Global, types: &mut Vec<SubType>) -> Result<(), Trouble> {
-    use ValType::{I32, I64};
-    types.push(function(alloc, &[], &[])?)?;
-    types.push(function(alloc, &[I32, I32], &[I32])?)?;
-    types.push(function(alloc, &[I32], &[I64, I64])?)?;
-    types.push(extended(alloc)?)?;
-    types.push(array(alloc, mutable(StorageType::Val(I32))))?;
-    types.push(extending(alloc)?)?;
-    types.push(array(alloc, mutable(StorageType::I8)))?;
-    types.push(array(alloc, immutable(StorageType::Val(I64))))?;
+/// Puts a type behind the others, if it could be made.
+fn put(types: &mut Vec<SubType>, ty: Result<SubType, Trouble>) -> Result<(), Trouble> {
+    types.push(ty?)?;
     Ok(())
 }
 
-/// The types from 8 to 15.
-fn push_others(alloc: Global, types: &mut Vec<SubType>) -> Result<(), Trouble> {
+/// Puts the type of functions from these values to those behind the others.
+fn put_function(
+    alloc: Global,
+    types: &mut Vec<SubType>,
+    takes: &[ValType],
+    gives: &[ValType],
+) -> Result<(), Trouble> {
+    put(types, function(alloc, takes, gives))
+}
+
+/// Puts the type of arrays of this element behind the others.
+fn put_array(alloc: Global, types: &mut Vec<SubType>, element: FieldType) -> Result<(), Trouble> {
+    put(types, Ok(array(alloc, element)))
+}
+
+/// The types from 0 to 3.
+fn push_first(alloc: Global, types: &mut Vec<SubType>) -> Result<(), Trouble> {
     use ValType::{I32, I64};
+    put_function(alloc, types, &[], &[])?;
+    put_function(alloc, types, &[I32, I32], &[I32])?;
+    put_function(alloc, types, &[I32], &[I64, I64])?;
+    put(types, extended(alloc))
+}
+
+/// The types from 4 to 7.
+fn push_second(alloc: Global, types: &mut Vec<SubType>) -> Result<(), Trouble> {
+    put_array(alloc, types, mutable(StorageType::Val(ValType::I32)))?;
+    put(types, extending(alloc))?;
+    put_array(alloc, types, mutable(StorageType::I8))?;
+    put_array(alloc, types, immutable(StorageType::Val(ValType::I64)))
+}
+
+/// The types from 8 to 11.
+fn push_third(alloc: Global, types: &mut Vec<SubType>) -> Result<(), Trouble> {
+    use ValType::{I32, I64};
+    put_function(alloc, types, &[I32], &[])?;
+    put_function(alloc, types, &[], &[I32])?;
+    put_function(alloc, types, &[I64], &[I64])?;
+    put_array(alloc, types, mutable(StorageType::Val(ValType::FUNCREF)))
+}
+
+/// Type 12, the structures of a reference to one of type 3.
+fn of_structures(alloc: Global) -> Result<SubType, Trouble> {
+    let field = immutable(stored(false, 3)?);
+    structure(alloc, true, Items::new(alloc), &[field])
+}
+
+/// The types from 12 to 15.
+fn push_others(alloc: Global, types: &mut Vec<SubType>) -> Result<(), Trouble> {
     let exception = ValType::Ref(RefType::EXNREF.as_non_null());
-    types.push(function(alloc, &[I32], &[])?)?;
-    types.push(function(alloc, &[], &[I32])?)?;
-    types.push(function(alloc, &[I64], &[I64])?)?;
-    types.push(array(alloc, mutable(StorageType::Val(ValType::FUNCREF))))?;
-    let of_structures = immutable(stored(false, 3)?);
-    types.push(structure(alloc, true, Items::new(alloc), &[of_structures])?)?;
-    types.push(array(alloc, mutable(stored(false, 3)?)))?;
-    types.push(function(alloc, &[I32], &[I32])?)?;
-    types.push(function(alloc, &[], &[I32, exception])?)?;
-    Ok(())
+    put(types, of_structures(alloc))?;
+    put_array(alloc, types, mutable(stored(false, 3)?))?;
+    put_function(alloc, types, &[ValType::I32], &[ValType::I32])?;
+    put_function(alloc, types, &[], &[ValType::I32, exception])
 }
 
 /// The types of the sample, in the order of their indices.
 pub fn sample_types(alloc: Global) -> Result<Vec<SubType>, Trouble> {
     let mut types = Vec::new(alloc);
     push_first(alloc, &mut types)?;
+    push_second(alloc, &mut types)?;
+    push_third(alloc, &mut types)?;
     push_others(alloc, &mut types)?;
     Ok(types)
 }

@@ -79,19 +79,26 @@ pub fn show_words(alloc: Global, words: &[String]) -> Result<Vec<String>, AllocE
 /// What `--help` says behind the options: the names of features, and the exit status.
 pub fn end_of_help(alloc: Global) -> Result<String, AllocError> {
     let mut text = String::from_str(alloc, OPCODES)?;
-    text.push_str("\n\nFeatures that `default` has:")?;
-    add_names(&mut text, WasmFeatures::STANDARD)?;
-    text.push_str("Features that only `all` has:")?;
-    add_names(
-        &mut text,
-        WasmFeatures::ALL.difference(WasmFeatures::STANDARD),
-    )?;
-    text.push_str("Features that have to be named:")?;
-    let limits = <WasmFeatures as Flags>::all().difference(WasmFeatures::ALL);
-    add_names(&mut text, limits)?;
+    text.push_str("\n\n")?;
+    add_features(&mut text)?;
     text.push('\n')?;
     text.push_str(STATUSES)?;
     Ok(text)
+}
+
+/// Adds the names of all features, by what has them.
+fn add_features(text: &mut String) -> Result<(), AllocError> {
+    let proposals = WasmFeatures::ALL.difference(WasmFeatures::STANDARD);
+    let limits = <WasmFeatures as Flags>::all().difference(WasmFeatures::ALL);
+    add_list(text, "Features that `default` has:", WasmFeatures::STANDARD)?;
+    add_list(text, "Features that only `all` has:", proposals)?;
+    add_list(text, "Features that have to be named:", limits)
+}
+
+/// Adds a line and the names of features behind it.
+fn add_list(text: &mut String, line: &str, features: WasmFeatures) -> Result<(), AllocError> {
+    text.push_str(line)?;
+    add_names(text, features)
 }
 
 /// Adds lines with the names of these features.
@@ -124,14 +131,17 @@ pub fn suggest(alloc: Global, word: &str) -> Result<String, AllocError> {
     let sign = if word.starts_with('-') { '-' } else { '+' };
     let mut text = String::new(alloc);
     match nearest_feature(alloc, name)? {
-        Some(feature) => {
-            write!(text, "did you mean `{sign}")?;
-            add_small_letters(&mut text, feature)?;
-            text.push_str("`?")?;
-        }
+        Some(feature) => add_question(&mut text, sign, feature)?,
         None => text.push_str("`wasm-check --help` lists them")?,
     }
     Ok(text)
+}
+
+/// Adds the question whether this feature with this sign is meant.
+fn add_question(text: &mut String, sign: char, feature: &str) -> Result<(), AllocError> {
+    write!(text, "did you mean `{sign}")?;
+    add_small_letters(text, feature)?;
+    text.push_str("`?")
 }
 
 /// What the command line may say. The text comes last in the help.

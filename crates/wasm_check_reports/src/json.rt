@@ -8,7 +8,7 @@ ghost use Rattle.wasm_check_reports.specs.Lines.{HasLine, IsVerdict, summary_dat
 ghost use Rattle.wasm_check_reports.specs.Verdicts.{verdict_word};
 
 use crate::items::{Item, Kind, SPACES, count_in, plural, singular, word_of};
-use crate::places::{Place, bytes_around, find_place, section_name};
+use crate::places::{Place, Section, bytes_around, find_place, section_name};
 use crate::summary::Summary;
 use bitflags::Flags;
 use serde_json::{Map, Value, put};
@@ -171,17 +171,37 @@ fn put_error(
 ) -> Result<(), AllocError> {
     put_number(members, alloc, "offset", error.offset())?;
     if let Some(function) = error.function() {
-        put_number(members, alloc, "function", u64::from(function))?;
-        if let Ok(Some(name)) = find_function_name(alloc, bytes, function) {
-            put_text(members, alloc, "function_name", name)?;
-        }
+        put_function(members, alloc, bytes, function)?;
     }
     put_message(members, alloc, error, hint_of(bytes))?;
-    if let Some(missing) = error.missing_features() {
-        let names = names_of(alloc, missing)?;
-        put(members, alloc, "missing_features", Value::Array(names))?;
+    match error.missing_features() {
+        Some(missing) => put_missing(members, alloc, missing),
+        None => Ok(()),
     }
-    Ok(())
+}
+
+/// Puts the index of a function, and its name, if the module has one for it.
+fn put_function(
+    members: &mut Members,
+    alloc: Global,
+    bytes: &[u8],
+    function: u32,
+) -> Result<(), AllocError> {
+    put_number(members, alloc, "function", u64::from(function))?;
+    match find_function_name(alloc, bytes, function) {
+        Ok(Some(name)) => put_text(members, alloc, "function_name", name),
+        _ => Ok(()),
+    }
+}
+
+/// Puts the names of the features that are missing.
+fn put_missing(
+    members: &mut Members,
+    alloc: Global,
+    missing: WasmFeatures,
+) -> Result<(), AllocError> {
+    let names = names_of(alloc, missing)?;
+    put(members, alloc, "missing_features", Value::Array(names))
 }
 
 /// Puts in which section an offset is, if it is in one, and the bytes around it.
@@ -192,25 +212,41 @@ fn put_place(
     offset: u64,
 ) -> Result<(), AllocError> {
     if let Place::In(section) = find_place(bytes, offset) {
-        let mut place = Map::new(alloc);
-        put_text(&mut place, alloc, "name", section_name(section.id))?;
-        put_number(&mut place, alloc, "start", section.start)?;
-        put_number(&mut place, alloc, "end", section.end)?;
-        put(members, alloc, "section", Value::Object(place))?;
+        put(members, alloc, "section", section_value(alloc, section)?)?;
     }
+    put(members, alloc, "bytes", around_value(alloc, bytes, offset)?)
+}
+
+/// What is said of a section.
+fn section_value(alloc: Global, section: Section) -> Result<Value, AllocError> {
+    let mut place = Map::new(alloc);
+    put_text(&mut place, alloc, "name", section_name(section.id))?;
+    put_number(&mut place, alloc, "start", section.start)?;
+    put_number(&mut place, alloc, "end", section.end)?;
+    Ok(Value::Object(place))
+}
+
+/// The bytes around an offset, and where they start.
+fn around_value(alloc: Global, bytes: &[u8], offset: u64) -> Result<Value, AllocError> {
     let (front, back) = bytes_around(bytes, offset);
+    let start = offset.saturating_sub(front.len() as u64);
+    let mut around = Map::new(alloc);
+    put_number(&mut around, alloc, "start", start)?;
+    put(
+        &mut around,
+        alloc,
+        "hex",
+        Value::String(hex_of(alloc, front, back)?),
+    )?;
+    Ok(Value::Object(around))
+}
+
+/// These bytes in hexadecimal digits, one after the other.
+fn hex_of(alloc: Global, front: &[u8], back: &[u8]) -> Result<String, AllocError> {
     let mut hex = String::new(alloc);
     write_hex(&mut hex, front)?;
     write_hex(&mut hex, back)?;
-    let mut around = Map::new(alloc);
-    put_number(
-        &mut around,
-        alloc,
-        "start",
-        offset.saturating_sub(front.len() as u64),
-    )?;
-    put(&mut around, alloc, "hex", Value::String(hex))?;
-    put(members, alloc, "bytes", Value::Object(around))
+    Ok(hex)
 }
 
 /// Writes two hexadecimal digits for each byte.

@@ -7,7 +7,7 @@ ghost use Rattle.wasm_check_reports.specs.Verdicts.{line_front, line_with, verdi
 
 use crate::items::{Item, Kind, SPACES, count_in, plural, singular, word_of, write_items};
 use crate::json;
-use crate::places::{Place, bytes_around, find_place, section_name};
+use crate::places::{Place, Section, bytes_around, find_place, section_name};
 use crate::settings::{Form, Settings};
 use bitflags::Flags;
 use std::alloc::{AllocError, Global};
@@ -126,20 +126,21 @@ fn write_details(
     }
 }
 
+/// Writes a word and how many there are.
+fn write_count(text: &mut String, word: &str, count: u64) -> Result<(), AllocError> {
+    write!(text, " {word} {count}")
+}
+
 /// Writes how many there are in each index space.
 fn write_counts(text: &mut String, shown: &TypesRef<'_, Global>) -> Result<(), AllocError> {
     'spaces: for space in SPACES {
-        let word = plural(space);
-        let count = count_in(shown, space);
-        write!(text, " {word} {count}")?;
+        write_count(text, plural(space), u64::from(count_in(shown, space)))?;
     }
     if let Some(imports) = shown.core_imports() {
-        let count = count_imports(imports);
-        write!(text, " imports {count}")?;
+        write_count(text, "imports", count_imports(imports))?;
     }
     if let Some(exports) = shown.core_exports() {
-        let count = count_exports(exports);
-        write!(text, " exports {count}")?;
+        write_count(text, "exports", count_exports(exports))?;
     }
     text.push('\n')
 }
@@ -154,18 +155,40 @@ fn write_error(
     let offset = error.offset();
     write!(text, " at {offset} (0x{offset:x})")?;
     if let Some(function) = error.function() {
-        write!(text, " in function {function}")?;
-        if let Ok(Some(name)) = find_function_name(alloc, bytes_of(file), function) {
-            write!(text, " (named {name:?} by the module)")?;
-        }
+        write_function(text, alloc, bytes_of(file), function)?;
     }
-    let message = Printable(error);
-    let hint = hint_of(bytes_of(file));
-    write!(text, ": {message}{hint}")?;
-    if let Some(missing) = error.missing_features() {
-        write_missing(text, alloc, missing)?;
-    }
+    write_reason(text, alloc, bytes_of(file), error)?;
     text.push('\n')
+}
+
+/// Writes the index of a function, and its name, if the module has one for it.
+fn write_function(
+    text: &mut String,
+    alloc: Global,
+    bytes: &[u8],
+    function: u32,
+) -> Result<(), AllocError> {
+    write!(text, " in function {function}")?;
+    match find_function_name(alloc, bytes, function) {
+        Ok(Some(name)) => write!(text, " (named {name:?} by the module)"),
+        _ => Ok(()),
+    }
+}
+
+/// Writes the message of a refusal, and the features that are missing.
+fn write_reason(
+    text: &mut String,
+    alloc: Global,
+    bytes: &[u8],
+    error: &Error<Global>,
+) -> Result<(), AllocError> {
+    let message = Printable(error);
+    let hint = hint_of(bytes);
+    write!(text, ": {message}{hint}")?;
+    match error.missing_features() {
+        Some(missing) => write_missing(text, alloc, missing),
+        None => Ok(()),
+    }
 }
 
 /// Writes in which section an offset is, and the bytes around it.
@@ -175,16 +198,7 @@ fn write_place(text: &mut String, bytes: &[u8], offset: u64) -> Result<(), Alloc
         Place::Between => text.push_str(
             "  in the id or the size of a section, or in one that is cut off",
         )?,
-        Place::In(section) => {
-            let name = section_name(section.id);
-            let at = if offset < section.end {
-                "in"
-            } else {
-                "at the end of"
-            };
-            let (start, end) = (section.start, section.end);
-            write!(text, "  {at} the {name} section, bytes {start} to {end}")?;
-        }
+        Place::In(section) => write_section(text, section, offset)?,
     }
     text.push('\n')?;
     write_bytes(text, bytes, offset)
@@ -195,17 +209,30 @@ fn write_bytes(text: &mut String, bytes: &[u8], offset: u64) -> Result<(), Alloc
     let (front, back) = bytes_around(bytes, offset);
     let start = offset.saturating_sub(front.len() as u64);
     write!(text, "  0x{start:04x}:")?;
-    'front: for byte in front {
-        write!(text, " {byte:02x}")?;
-    }
+    write_others(text, front)?;
     match back.split_first() {
-        Some((byte, others)) => {
-            write!(text, " [{byte:02x}]")?;
-            write_others(text, others)?;
-        }
+        Some((byte, others)) => write_marked(text, *byte, others)?,
         None => text.push_str(" [end]")?,
     }
     text.push('\n')
+}
+
+/// Writes a section and where an offset is in it.
+fn write_section(text: &mut String, section: Section, offset: u64) -> Result<(), AllocError> {
+    let name = section_name(section.id);
+    let at = if offset < section.end {
+        "in"
+    } else {
+        "at the end of"
+    };
+    let (start, end) = (section.start, section.end);
+    write!(text, "  {at} the {name} section, bytes {start} to {end}")
+}
+
+/// Writes a byte in brackets, and the others behind it.
+fn write_marked(text: &mut String, byte: u8, others: &[u8]) -> Result<(), AllocError> {
+    write!(text, " [{byte:02x}]")?;
+    write_others(text, others)
 }
 
 fn write_others(text: &mut String, bytes: &[u8]) -> Result<(), AllocError> {
