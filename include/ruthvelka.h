@@ -4,8 +4,8 @@
    the enabled proposals, within fixed limits, and has nothing that is left out. docs/THEOREM.md of
    the repository has the exact statement. All of the library but c/ (some 500 lines of C that
    test the arguments, pass these calls on, write outcomes and take memory) has proofs, which
-   docs/PROVED.md lists; whether they were run for the library at hand is what the last line of
-   bin/build-c says, or the file PROOF of a release.
+   docs/PROVED.md lists; whether they were run for the library at hand is what the file PROVED says,
+   which bin/build-c leaves beside it, or the file PROOF of a release.
 
    How to use it. A program that loads modules makes a validator, gives it one module after
    another, keeps the types of those that it accepts, and asks these what may be linked:
@@ -52,11 +52,12 @@
    at most `types` of each outcome, or makes a new validator.
 
    Structures that grow. One that is read or written begins with its size, which the caller sets:
-   `struct ruthvelka_outcome outcome = {sizeof outcome};`. Where the compiler warns of that, C has
-   `{.size = sizeof outcome}`, and C++ `struct ruthvelka_outcome outcome = {};` and then
-   `outcome.size = sizeof outcome;`. A later version of the library writes no more than that size,
-   and an earlier one no more than it knows, so set the others to 0 before. Of an array of
-   structures the caller sets the size of the first item, which is that of each.
+   `struct ruthvelka_outcome outcome = {.size = sizeof outcome};` in C, and in C++
+   `struct ruthvelka_outcome outcome = {};` and then `outcome.size = sizeof outcome;`. A later
+   version of the library writes no more than that size, and an earlier one no more than it knows,
+   so set the others to 0 before. Of an array of structures the caller sets the size of the first
+   item, which is that of each. ruthvelka_side_entry and ruthvelka_body_table have no size of their
+   own: it stands in the table or the totals, and has to be the one that the library knows.
 
    Memory comes from malloc, realloc and free; in a call on a handle from the allocator that its
    validator was made with, if it was made with one; and in a call without a handle from what
@@ -131,8 +132,11 @@
    nothing in the bytes of a module.
 
    Build with `pkg-config --cflags --libs ruthvelka`, or with include/ in the path and
-   libruthvelka.a. It is for x86-64 Linux (x86-64-v2). The static library has other functions too
-   whose names begin with rattle_ or ruthvelka_: a program that is linked with it has none such. */
+   libruthvelka.a. Behind `bin/build-c FOLDER` pkg-config needs PKG_CONFIG_PATH=FOLDER, and a
+   program with the shared library runs with LD_LIBRARY_PATH=FOLDER; the file PROVED in that folder
+   says `proved` or `not proved`, and which commit it was built of. The library is for x86-64 Linux
+   (x86-64-v2). The static one has other functions too whose names begin with rattle_ or ruthvelka_:
+   a program that is linked with it has none such. */
 #ifndef RUTHVELKA_H
 #define RUTHVELKA_H
 
@@ -275,7 +279,7 @@ struct ruthvelka_outcome {
    Result: VALID, REFUSED, NO_MEMORY or WRONG. Threads: any, side by side. Memory: as of calls
    without a handle (ruthvelka_set_allocator).
 
-       struct ruthvelka_outcome outcome = {sizeof outcome};
+       struct ruthvelka_outcome outcome = {.size = sizeof outcome};
        char text[200];
        if (ruthvelka_check(bytes, length, RUTHVELKA_STANDARD, text, sizeof text, &outcome)
            == RUTHVELKA_STATUS_REFUSED) {
@@ -290,7 +294,7 @@ uint32_t ruthvelka_check(const uint8_t *bytes, size_t length, uint64_t features,
 
    For interpreters that run bodies in place, over the bytes of the module: where each branch goes,
    and what it does with the operands. All offsets count from the module's first byte, and have 32
-   bits. */
+   bits. examples/c/in_place.c of the repository is such an interpreter, of some operators. */
 
 /* One branch. The entries of a body come in the order of its instructions, those of one instruction
    in the order of its labels: one for each br, br_if, if, else, br_on_null, br_on_non_null,
@@ -299,8 +303,12 @@ uint32_t ruthvelka_check(const uint8_t *bytes, size_t length, uint64_t features,
    or resume_throw_ref that names a label; and one for each catch and catch_all of a `try`. */
 struct ruthvelka_side_entry {
     uint32_t at;      /* the offset of the instruction that branches */
-    uint32_t target;  /* the offset of the instruction to go on with */
-    uint32_t next;    /* how many entries come before that one: where to go on in the table */
+    uint32_t target;  /* the offset of the instruction to go on with: to the label of a loop, that
+                         behind `loop` and its type; to that of another block, behind its `end` or
+                         `delegate`; to that of the body itself, the table's `end`, where there is
+                         no instruction: the function returns with the operands that are kept */
+    uint32_t next;    /* how many entries come before that one: where to go on in the table; to the
+                         label of the body itself, all `entries` of the table */
     uint32_t kept;    /* how many operands are kept, from the top */
     uint32_t dropped; /* how many operands below these are dropped */
 };
@@ -322,27 +330,44 @@ struct ruthvelka_side_table {
    is no room for entries, tells how many there are. `length` entries are always enough. Message and
    outcome are as of ruthvelka_check.
 
-   A branch that is taken goes on at `target`, with the entry `next`; one that isn't goes on behind
-   its instruction, with the entry behind its own. An `if` branches where its condition is 0, to
-   behind its `else` or its `end`; an `else` or a catch that is reached from above branches to behind
-   the `end`. What is taken first, as a condition is, counts neither as kept nor as dropped. In code
+   A body begins at `first`, with entry 0. A branch that is taken goes on at `target`, with the
+   entry `next`. Where an instruction doesn't branch it goes on behind itself, with the entry behind
+   all its own: so does a try_table that is entered, or a resume whose continuation returns. An `if`
+   branches where its condition is 0, to behind its `else` or its `end`; an `else` or a catch that
+   is reached from above branches to behind the `end`. `return` and calls have no entry: how many
+   values a function takes and gives, and so how many of its locals are parameters,
+   ruthvelka_types_signature says, of a validator's types.
+
+   Operands. What is taken first counts neither as kept nor as dropped: the condition of br_if and
+   if, the index of br_table, the null of br_on_null, the descriptor of a branch by descriptors. The
+   reference of br_on_non_null, br_on_cast and br_on_cast_fail is among those that are kept. In code
    that isn't reached there may be fewer operands than a branch keeps, and it drops none then.
+
+   Clauses and handlers. A clause of a try_table keeps what it gives to its label: the values of the
+   exception, and the reference to it if the clause gives one. They stand on the operands that were
+   below the parameters of the try_table, of which `dropped` go. A handler of a resume keeps the
+   values of its tag and the continuation, on the operands that were below what the resume takes.
+   What is dropped goes first: with it there may be more than `operands` at once. No table tells
+   where a try_table ends, and so how long its clauses catch, nor to which catch of a `try` an
+   exception goes: the blocks in the bytes say so.
 
    The whole module is validated first, so that each call takes as long as ruthvelka_check and more:
    ruthvelka_side_tables makes the tables of all bodies in one.
 
    Result: DONE; REFUSED, where the module isn't valid; NO_MEMORY; or WRONG. WRONG too where the
-   module is valid and has no body of that function, or one whose end lies past 4 GiB; where there
-   is room for entries and no table; and where the table's size ends before its locals do, or its
-   entries have another size. Nothing is written then but message and outcome. Threads: any, side by
-   side. Memory: as of calls without a handle (ruthvelka_set_allocator).
+   module is valid and has no body of that function, as where it is imported, or one whose end lies
+   past 4 GiB; where there is room for entries and no table; and where the table's size ends before
+   its locals do, or its entries have another size. Where it isn't DONE nothing else is written than
+   the outcome, and the message where it is REFUSED. Threads: any, side by side. Memory: as of calls
+   without a handle (ruthvelka_set_allocator).
 
-       struct ruthvelka_side_table table = {sizeof table, sizeof(struct ruthvelka_side_entry)};
+       struct ruthvelka_side_table table = {.size = sizeof table,
+           .entry_size = sizeof(struct ruthvelka_side_entry)};
        struct ruthvelka_side_entry entries[64];
        if (ruthvelka_side_table(bytes, length, RUTHVELKA_STANDARD, function, NULL, 0, NULL, &table,
                entries, 64) == RUTHVELKA_STATUS_DONE
            && table.entries <= 64)
-           interpret(bytes + table.first, entries, table.operands + table.locals); */
+           interpret(bytes, &table, entries); */
 uint32_t ruthvelka_side_table(const uint8_t *bytes, size_t length, uint64_t features,
     uint32_t function, char *message, size_t message_room, struct ruthvelka_outcome *outcome,
     struct ruthvelka_side_table *table, struct ruthvelka_side_entry *entries, size_t entry_room);
@@ -377,19 +402,24 @@ struct ruthvelka_side_tables {
    outcome are as of ruthvelka_check.
 
    The module is validated once, and its tables are made meanwhile, however many bodies there are:
-   so for compiled code the call takes less than twice as long as ruthvelka_check, and for code of
-   branches alone up to five times as long. One that isn't valid is looked at twice, the first time
-   up to where it isn't. What is told is kept until the module is known to be valid, so the call
-   takes as much memory again as all tables and entries, whatever the room is.
+   so for compiled code a call takes less than twice as long as ruthvelka_check, and for code of
+   branches alone up to seven times as long. The example below makes two calls, each of which takes
+   that; one call with room for `length` of each, 60 bytes for each byte of the module, spares the
+   second. A module that isn't valid is looked at twice, the first time up to where it isn't. What
+   is told is kept until the module is known to be valid: so, whatever the room is, a call takes up
+   to five times as much memory as all tables and entries, and some 40 bytes for each block that is
+   open at once, besides what ruthvelka_check takes.
 
    Result: DONE; REFUSED, where the module isn't valid; NO_MEMORY; or WRONG. WRONG too where the
    module is valid and the end of a body lies past 4 GiB; where there is room and there are no
-   totals; and where the totals' size ends before their entries do, or tables or entries have another
-   size. Nothing is written then but message and outcome. Threads: any, side by side. Memory: as of
-   calls without a handle (ruthvelka_set_allocator).
+   totals; and where the totals' size ends before their entries do, or tables or entries have
+   another size. Where it isn't DONE nothing else is written than the outcome, and the message where
+   it is REFUSED. Threads: any, side by side. Memory: as of calls without a handle
+   (ruthvelka_set_allocator).
 
-       struct ruthvelka_side_tables totals = {sizeof totals, sizeof(struct ruthvelka_body_table),
-           sizeof(struct ruthvelka_side_entry)};
+       struct ruthvelka_side_tables totals = {.size = sizeof totals,
+           .table_size = sizeof(struct ruthvelka_body_table),
+           .entry_size = sizeof(struct ruthvelka_side_entry)};
        if (ruthvelka_side_tables(bytes, length, RUTHVELKA_STANDARD, NULL, 0, NULL, &totals, NULL, 0,
                NULL, 0) != RUTHVELKA_STATUS_DONE)
            return refuse();
@@ -401,7 +431,7 @@ struct ruthvelka_side_tables {
                   tables, table_room, entries, entry_room) != RUTHVELKA_STATUS_DONE)
            return out_of_memory();
        for (size_t i = 0; i < table_room; i++)
-           keep(tables[i].function, bytes + tables[i].first, entries + tables[i].start); */
+           keep(bytes, &tables[i], entries + tables[i].start); */
 uint32_t ruthvelka_side_tables(const uint8_t *bytes, size_t length, uint64_t features,
     char *message, size_t message_room, struct ruthvelka_outcome *outcome,
     struct ruthvelka_side_tables *totals, struct ruthvelka_body_table *tables, size_t table_room,
@@ -515,7 +545,7 @@ void ruthvelka_types_release(struct ruthvelka_types *types);
    Result: DONE or WRONG. Threads: the validator's.
 
        uint32_t functions[64];
-       struct ruthvelka_outcome outcome = {sizeof outcome};
+       struct ruthvelka_outcome outcome = {.size = sizeof outcome};
        if (ruthvelka_types_ids(&types, &outcome, NULL, 0, functions, 64) == RUTHVELKA_STATUS_DONE)
            for (uint32_t i = 0; i < outcome.functions && i < 64; i++)
                printf("function %u: type id %u\n", i, functions[i]); */
@@ -666,7 +696,7 @@ struct ruthvelka_extern_type {
 
    Result: DONE; NO_MEMORY or WRONG, and none of the arrays changes. Threads: the validator's.
 
-       struct ruthvelka_extern_type imports[64] = {{sizeof imports[0]}};
+       struct ruthvelka_extern_type imports[64] = {{.size = sizeof imports[0]}};
        char names[4096];
        if (ruthvelka_types_externs(&types, &outcome, imports, 64, NULL, 0, names, sizeof names)
                == RUTHVELKA_STATUS_DONE
@@ -696,8 +726,8 @@ struct ruthvelka_signature {
    Result: DONE; or WRONG, and nothing is written, also where these types know no function type
    under this id, or the signature's size ends before its results do. Threads: the validator's.
 
-       struct ruthvelka_signature signature = {sizeof signature, 0, 0};
-       struct ruthvelka_value_type params[2] = {{sizeof params[0]}};
+       struct ruthvelka_signature signature = {.size = sizeof signature};
+       struct ruthvelka_value_type params[2] = {{.size = sizeof params[0]}};
        if (ruthvelka_types_signature(&types, imports[i].type_id, &signature, params, 2, NULL, 0)
                == RUTHVELKA_STATUS_DONE
            && signature.params == 2 && !signature.results && params[0].kind == RUTHVELKA_I32
@@ -737,7 +767,7 @@ struct ruthvelka_custom_section {
    then the count is 0, and nothing is written. WRONG too where the size of the first item isn't
    that of this structure. Threads: any, side by side. Memory: as of ruthvelka_check.
 
-       struct ruthvelka_custom_section sections[16] = {{sizeof sections[0], 0, 0, 0, 0, 0}};
+       struct ruthvelka_custom_section sections[16] = {{.size = sizeof sections[0]}};
        uint64_t count;
        if (ruthvelka_custom_sections(bytes, length, &count, sections, 16) == RUTHVELKA_STATUS_DONE)
            for (uint64_t i = 0; i < count && i < 16; i++)
@@ -772,7 +802,7 @@ struct ruthvelka_body {
 
    Result, threads and memory: as of ruthvelka_custom_sections.
 
-       struct ruthvelka_body bodies[64] = {{sizeof bodies[0], 0, 0}};
+       struct ruthvelka_body bodies[64] = {{.size = sizeof bodies[0]}};
        uint64_t count;
        if (ruthvelka_bodies(bytes, length, &count, bodies, 64) == RUTHVELKA_STATUS_DONE)
            for (uint64_t i = 0; i < count && i < 64; i++)
